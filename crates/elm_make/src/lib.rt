@@ -1,0 +1,16 @@
+//! The build: from the files of a project to the JavaScript text of its program.
+//!
+//! Today a project is one module `Main` that starts a worker and sends one number; its phases (parsing, emission)
+//! are private parts of this crate.
+#![tactic(auto)]
+
+mod build;
+mod compile;
+mod emission;
+mod expr;
+mod lines;
+mod parser;
+mod paths;
+mod runtime;
+
+pub use build::{BuildEnd, Built, Outcome, build};

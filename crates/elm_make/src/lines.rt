@@ -1,0 +1,26 @@
+//! The lines that a build prints.
+
+use elm_base::{Code, Fault, Pos, Region, Text, fault_line};
+use std::alloc::{AllocError, Global};
+
+/// The line of a fault without detail at the start of a file.
+pub fn refusal(alloc: Global, code: Code, path: &str) -> Result<(Fault, Vec<u8>), AllocError> {
+    let start = Pos { row: 1, column: 1 };
+    let fault = Fault {
+        code,
+        path: Text::copy(alloc, path.as_bytes())?,
+        region: Region { start, end: start },
+        detail: Text::empty(alloc),
+    };
+    let line = fault_line(alloc, &fault)?;
+    Ok((fault, line))
+}
+
+/// `compiled to FILE, modules: 1`
+pub fn compiled(alloc: Global, output: &str) -> Result<Vec<u8>, AllocError> {
+    let mut line = Vec::with_capacity(alloc, output.len())?;
+    line.extend_from_slice(b"compiled to ")?;
+    line.extend_from_slice(output.as_bytes())?;
+    line.extend_from_slice(b", modules: 1\n")?;
+    Ok(line)
+}
