@@ -7,4 +7,3 @@ pub mod position;
 pub mod reserved;
 pub mod text;
 pub mod units;
-
