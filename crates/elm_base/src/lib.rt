@@ -3,6 +3,7 @@
 
 pub mod fault;
 pub mod name;
+pub mod path;
 pub mod position;
 pub mod reserved;
 pub mod text;
