@@ -1,11 +1,16 @@
 -- Names joined by `/`, and the walk that reads them.
-use Rattle.std.proofs.Common.{◌≡◌, ℕ, ◌+◌, ◌<◌, inl, inr, Bool, true, false, cond, eqb, ltb, not, ◌&&◌, ◌||◌, List, [], ◌∷◌, ◌++◌, length, map, drop, get_or, refl, sym, ap, ◌∙◌, subst, append_assoc, append-nil, arith, rules}
+use Rattle.std.proofs.Common.{◌≡◌, ℕ, ◌+◌, ◌-◌, ◌<◌, Some, take, inl, inr, Bool, true, false, cond, eqb, ltb, not, ◌&&◌, ◌||◌, List, [], ◌∷◌, ◌++◌, length, map, drop, get_or, refl, sym, ap, ◌∙◌, subst, append_assoc, append-nil, arith, rules}
 use Rattle.std.specs.List.{list_all, join_with_byte}
 use Rattle.std.specs.Char.{is_ascii_uppercase, is_ascii_alphanumeric}
 use Rattle.std.proofs.lemmas.List.{map-append, at_drop_more, at_drop_all}
 use Rattle.std.proofs.lemmas.Bool.{false≢true}
 use Rattle.std.proofs.lemmas.Bool.Decides.{eqb_tells}
-use Rattle.elm_base.specs.Path.{is_name_char, is_upper_name, may_stand, goes_on, dot_for_slash}
+use Rattle.std.specs.Prelude.{codes, encode_utf8_all, IsUtf8}
+use Rattle.std.specs.Str.{chars}
+use Rattle.std.specs.Str.Pattern.{FindsTextSuffix}
+use Rattle.std.proofs.lemmas.List.{append_cancel_right}
+use Rattle.std.proofs.lemmas.Str.{encodes_same, encodes-chars}
+use Rattle.elm_base.specs.Path.{is_name_char, is_upper_name, may_stand, goes_on, dot_for_slash, IsPathOf, NamesModule, dotted}
 
 and_left : (a b : Bool) → (a && b) ≡ true → a ≡ true
 and_left true b e = refl
@@ -55,17 +60,17 @@ goes_on-behind (name ∷ names) h =
         ∙ goes_on-behind names (and_right (is_upper_name name) (list_all is_upper_name names) h)
 
 -- what names spell passes the walk
-pub goes_on-joined : (names : List (List ℕ)) → 0 < length names → list_all is_upper_name names ≡ true → goes_on true (join_with_byte 47 names) ≡ true
+goes_on-joined : (names : List (List ℕ)) → 0 < length names → list_all is_upper_name names ≡ true → goes_on true (join_with_byte 47 names) ≡ true
 goes_on-joined [] some h = absurd (omega arith)
 goes_on-joined (name ∷ names) some h =
     rw (join-behind 47 name names) (goes_on-behind (name ∷ names) h)
 
 -- the characters are names joined by `/`
-pub record IsJoined (cs : List ℕ) : Type 0 where
-  pub names : List (List ℕ)
-  pub some : 0 < length names
-  pub upper : list_all is_upper_name names ≡ true
-  pub spelled : cs ≡ join_with_byte 47 names
+record IsJoined (cs : List ℕ) : Type 0 where
+  names : List (List ℕ)
+  some : 0 < length names
+  upper : list_all is_upper_name names ≡ true
+  spelled : cs ≡ join_with_byte 47 names
 
 -- the characters are the end of a name and then names, each behind a `/`
 record IsRest (cs : List ℕ) : Type 0 where
@@ -111,7 +116,7 @@ walked : (cs : List ℕ) → (goes_on true cs ≡ true → IsJoined cs) × (goes
 walked [] = (λ e. absurd (false≢true e), λ e. record { end = []; names = []; named = refl; upper = refl; spelled = refl })
 walked (c ∷ cs) = (started c cs (walked cs).1, inside c cs (walked cs).0 (walked cs).1)
 
-pub names_from_walk : (cs : List ℕ) → goes_on true cs ≡ true → IsJoined cs
+names_from_walk : (cs : List ℕ) → goes_on true cs ≡ true → IsJoined cs
 names_from_walk cs = (walked cs).0
 
 -- dots for slashes in one name, and in names
@@ -135,7 +140,7 @@ dots-behind (name ∷ names) h =
     ap (λ t. 46 ∷ t) (map-append dot_for_slash name (behind 47 names) ∙ ap (λ t. t ++ map dot_for_slash (behind 47 names)) one ∙ ap (λ t. name ++ t) more)
 
 -- dots for the slashes of joined names join them by dots
-pub dots-joined : (names : List (List ℕ)) → list_all is_upper_name names ≡ true → map dot_for_slash (join_with_byte 47 names) ≡ join_with_byte 46 names
+dots-joined : (names : List (List ℕ)) → list_all is_upper_name names ≡ true → map dot_for_slash (join_with_byte 47 names) ≡ join_with_byte 46 names
 dots-joined [] h = refl
 dots-joined (name ∷ names) h =
     let one = dots-name name (and_left (is_upper_name name) (list_all is_upper_name names) h) in
@@ -146,3 +151,30 @@ dots-joined (name ∷ names) h =
 pub goes_on-drop : (cs : List ℕ) (n : ℕ) (c : ℕ) (starting : Bool) → (n < length cs) × (c ≡ get_or cs n c) → goes_on starting (drop n cs) ≡ (may_stand starting c && goes_on (eqb c 47) (drop (n + 1) cs))
 goes_on-drop cs n c starting h =
     at_drop_more (goes_on starting) cs n c h.0 ∙ ap (λ x. may_stand starting x && goes_on (eqb x 47) (drop (n + 1) cs)) (sym h.1)
+
+-- what `strip_suffix` at the text p leaves
+pub stripped : (p s x : List ℕ) → (n : ℕ) × FindsTextSuffix p s (Some n) × (x ≡ take (length s - n) s) × (length x + n ≡ length s) → s ≡ x ++ p
+stripped p s x w = w.1.1 ∙ ap (λ t. t ++ p) (sym w.2)
+
+-- the characters of what stands before `.elm` are the names joined
+chars-stem : (path stem : List ℕ) (names : List (List ℕ)) → path ≡ stem ++ codes ".elm" → IsUtf8 stem → IsPathOf names path → chars stem ≡ join_with_byte 47 names
+chars-stem path stem names cut text p =
+    encodes_same (chars stem) (join_with_byte 47 names) (encodes-chars stem text ∙ append_cancel_right stem (encode_utf8_all (join_with_byte 47 names)) (codes ".elm") (sym cut ∙ p.spelled))
+
+-- where the walk fails no names spell the path
+pub no_names : (path stem : List ℕ) → path ≡ stem ++ codes ".elm" → IsUtf8 stem → goes_on true (chars stem) ≡ false → (names : List (List ℕ)) → IsPathOf names path → ⊥
+no_names path stem cut text fails names p =
+    let joined = chars-stem path stem names cut text p in
+    false≢true (sym fails ∙ ap (goes_on true) joined ∙ goes_on-joined names p.some p.upper)
+
+-- where the walk passes, names spell the path, and the text with dots is those joined by dots
+pub some_names : (path stem name : List ℕ) → path ≡ stem ++ codes ".elm" → IsUtf8 stem → goes_on true (chars stem) ≡ true → name ≡ encode_utf8_all (map dot_for_slash (chars stem)) → NamesModule path name
+some_names path stem name cut text passes dots =
+    let j = names_from_walk (chars stem) passes in
+    let spelled : path ≡ encode_utf8_all (join_with_byte 47 j.names) ++ codes ".elm" = cut ∙ ap (λ t. t ++ codes ".elm") (sym (encodes-chars stem text) ∙ ap encode_utf8_all j.spelled) in
+    (j.names, record { some = j.some; upper = j.upper; spelled = spelled }, dots ∙ ap (λ t. encode_utf8_all (map dot_for_slash t)) j.spelled ∙ ap encode_utf8_all (dots-joined j.names j.upper))
+
+-- whatever names spell the path, the text with dots is those joined by dots
+pub only_names : (path stem name : List ℕ) → path ≡ stem ++ codes ".elm" → IsUtf8 stem → name ≡ encode_utf8_all (map dot_for_slash (chars stem)) → (names : List (List ℕ)) → IsPathOf names path → name ≡ dotted names
+only_names path stem name cut text dots names p =
+    dots ∙ ap (λ t. encode_utf8_all (map dot_for_slash t)) (chars-stem path stem names cut text p) ∙ ap encode_utf8_all (dots-joined names p.upper)

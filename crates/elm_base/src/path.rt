@@ -35,7 +35,7 @@ pub fn name_of_path(alloc: Global, path: &str) -> Result<Option<ModName>, AllocE
         return Ok(None);
     }
     let name = with_dots(alloc, stem)?;
-    Ok(Some(ModName::from_text(Text::copy(alloc, name.as_bytes())?)))
+    Ok(Some(ModName::from_text(Text::from_vec(name.into_bytes()))))
 }
 
 // Whether the text is upper-case names joined by `/`.
