@@ -57,7 +57,7 @@ goes_on-behind : (names : List (List ℕ)) → list_all is_upper_name names ≡ 
 goes_on-behind [] h = refl
 goes_on-behind (name ∷ names) h =
     goes_on-name name (behind 47 names) (and_left (is_upper_name name) (list_all is_upper_name names) h)
-        ∙ goes_on-behind names (and_right (is_upper_name name) (list_all is_upper_name names) h)
+    ∙ goes_on-behind names (and_right (is_upper_name name) (list_all is_upper_name names) h)
 
 -- what names spell passes the walk
 goes_on-joined : (names : List (List ℕ)) → 0 < length names → list_all is_upper_name names ≡ true → goes_on true (join_with_byte 47 names) ≡ true
