@@ -1,0 +1,4 @@
+pub mod Code
+pub mod Fault
+pub mod Path
+pub mod Reserved
