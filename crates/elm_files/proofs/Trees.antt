@@ -1,0 +1,22 @@
+-- Trees after the change of one file.
+use Rattle.std.proofs.Common.{◌≡◌, ◌≢◌, ◌∙◌, ℕ, Bool, true, false, List, Option, Some, None, option_map, is_some, refl, ap, sym, rules, if◌then◌else◌}
+use Rattle.std.specs.Str.{bytes_eq}
+use Rattle.std.proofs.lemmas.Slice.Eq.{bytes_eq-Decides}
+use Rattle.std.proofs.lemmas.Bool.{false_from_ne_true}
+use Rattle.elm_files.specs.Tree.{Tree, put, file_at, with_file, SameElsewhere}
+
+-- what the path itself holds
+pub put_same : (tree : Tree) (path : List ℕ) (file : Option (List ℕ)) → put tree path file path ≡ file
+put_same tree path file = ap (λ b. if b then file else tree path) ((bytes_eq-Decides path path).1 refl)
+
+-- what each other path holds
+pub put_other : (tree : Tree) (path : List ℕ) (file : Option (List ℕ)) (q : List ℕ) → q ≢ path → put tree path file q ≡ tree q
+put_other tree path file q differs =
+    ap (λ b. if b then file else tree q) (false_from_ne_true _ (λ same. differs (sym ((bytes_eq-Decides path q).0 same))))
+
+-- a tree that differs by what one path holds agrees at each other path
+pub put_elsewhere : (old new : Tree) (path : List ℕ) (file : Option (List ℕ)) → new ≡ put old path file → SameElsewhere path (Some old) (Some new)
+put_elsewhere old new path file changed = record {
+  told = refl;
+  others = λ q differs. ap (λ (tree : Tree). tree q) changed ∙ put_other old path file q differs;
+}

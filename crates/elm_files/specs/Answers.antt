@@ -1,0 +1,34 @@
+-- The answers of a call on a file or a sink, and the count of its faults.
+use Rattle.std.specs.Prelude.{◌≡◌, ◌<◌, ◌↔◌, ⊤, ℕ, Result, Ok, Err}
+use Rattle.elm_files.specs.declared.outside.FileError.{FileError}
+use Rattle.elm_files.specs.declared.outside.FileError.TheVariants.{Failed, NoMemory}
+
+module _ {T : Type 0} where
+  -- the answer is that the call failed
+  abbrev pub IsFailed : Result T FileError → Type 0
+  IsFailed (Ok _) = ⊥
+  IsFailed (Err Failed) = ⊤
+  IsFailed (Err NoMemory) = ⊥
+
+  -- this holds where the call failed
+  abbrev pub OnFailed : Result T FileError → Type 0 → Type 0
+  OnFailed (Ok _) P = ⊤
+  OnFailed (Err Failed) P = P
+  OnFailed (Err NoMemory) P = ⊤
+
+  -- this holds where memory was wanting
+  abbrev pub OnNoMemory : Result T FileError → Type 0 → Type 0
+  OnNoMemory (Ok _) P = ⊤
+  OnNoMemory (Err Failed) P = ⊤
+  OnNoMemory (Err NoMemory) P = P
+
+  -- this holds of each answer but that the call failed
+  abbrev pub UnlessFailed : Result T FileError → Type 0 → Type 0
+  UnlessFailed (Ok _) P = P
+  UnlessFailed (Err Failed) P = ⊤
+  UnlessFailed (Err NoMemory) P = P
+
+  -- the call failed exactly where the count of faults rose; of a count that is full nothing is said
+  abbrev pub FailedIffRose : Result T FileError → ℕ → ℕ → Type 0
+  FailedIffRose result before after =
+      before < 18446744073709551615 → (IsFailed result ↔ (before < after))

@@ -1,0 +1,4 @@
+pub mod Answers
+pub mod Memory
+pub mod Texts
+pub mod Tree

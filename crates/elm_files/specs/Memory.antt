@@ -1,0 +1,44 @@
+-- Files and sinks in memory: what they hold, and which of their calls fail.
+use Rattle.std.specs.Prelude.{◌≡◌, ◌+◌, ℕ, List, Option, None, option_map, nat_lt, if◌then◌else◌, Result, Ok, Err}
+use Rattle.std.specs.BTreeMap.{get_by_text}
+use Rattle.elm_files.specs.Tree.{Tree}
+use Rattle.elm_files.specs.declared.memory.MemFiles.{MemFiles}
+use Rattle.elm_files.specs.declared.memory.MemSink.{MemSink}
+use Rattle.elm_files.specs.declared.outside.FileError.{FileError}
+use Rattle.elm_files.specs.declared.outside.FileError.TheVariants.{Failed, NoMemory}
+
+-- the tree in which each path is absent
+abbrev pub empty_tree : Tree
+empty_tree path = None
+
+-- the tree of the files
+abbrev pub files_in : MemFiles → Tree
+files_in files path = option_map (λ bytes. bytes.items) (get_by_text files.held path)
+
+-- what was put into the sink
+abbrev pub text_in : MemSink → List ℕ
+text_in sink = sink.held.items
+
+-- which calls are to fail, how many there were, and how many of them failed; calls are numbered from 0
+pub record Plan : Type 0 where
+  pub failing : List ℕ
+  pub calls : ℕ
+  pub faults : ℕ
+
+-- the plan of the files
+abbrev pub plan_of : MemFiles → Plan
+plan_of files = record { failing = files.failing.items; calls = files.calls; faults = files.faults }
+
+-- the plan of the sink
+abbrev pub sink_plan_of : MemSink → Plan
+sink_plan_of sink = record { failing = sink.failing.items; calls = sink.calls; faults = sink.faults }
+
+-- a count of 64 bits that is one higher, unless it is full
+abbrev pub raised : ℕ → ℕ
+raised n = if nat_lt n 18446744073709551615 then n + 1 else n
+
+-- the plan after a call: one call more, and one fault more where it failed; a call that wanted memory does not count
+abbrev pub plan_after : {T : Type 0} → Result T FileError → Plan → Plan
+plan_after (Ok _) plan = record plan { calls = raised plan.calls }
+plan_after (Err Failed) plan = record plan { calls = raised plan.calls; faults = raised plan.faults }
+plan_after (Err NoMemory) plan = plan

@@ -1,0 +1,8 @@
+//! The outside of the compiler: files and sinks, with meanings that contracts can speak of.
+#![tactic(auto)]
+
+mod memory;
+mod outside;
+
+pub use memory::{MemFiles, MemSink};
+pub use outside::{FileError, Files, Got, Sink};

@@ -1,0 +1,165 @@
+//! Files and a sink in memory, for tests and for builds that touch no disk.
+ghost use Rattle.std.specs.Prelude.{◌≡◌, ◌↔◌, Contains, IfOk, IsTrue, None, OnErr, OnOk, Some, option_map};
+ghost use Rattle.elm_files.specs.Answers.{IsFailed, OnFailed, OnNoMemory};
+ghost use Rattle.elm_files.specs.Memory.{empty_tree, files_in, plan_after, plan_of, raised};
+ghost use Rattle.elm_files.specs.Tree.{IsReadOf, SameElsewhere, put};
+
+use crate::outside::{FileError, Files, Got};
+use std::alloc::{AllocError, Global};
+use std::collections::BTreeMap;
+
+/// Files in memory. Those of its calls of `read` and `write` fail, and no others, whose numbers it was given;
+/// both are numbered together, from 0.
+#[derive(Drop)]
+pub struct MemFiles {
+    alloc: Global,
+    held: BTreeMap<String, Vec<u8>>,
+    failing: Vec<u64>,
+    calls: u64,
+    faults: u64,
+}
+
+impl MemFiles {
+    /// No files. The calls with the numbers in `failing` are to fail.
+    pub fn new(alloc: Global, failing: Vec<u64>) -> Self
+        ensures files { files_in result ≡ empty_tree }
+        ensures plan { plan_of result ≡ record { failing = failing.items; calls = 0; faults = 0 } }
+    {
+        MemFiles {
+            alloc,
+            held: BTreeMap::new(alloc),
+            failing,
+            calls: 0,
+            faults: 0,
+        }
+    }
+
+    /// Makes `bytes` the file at `path`. This is no call that is numbered.
+    pub fn insert(&mut self, path: &str, bytes: &[u8]) -> Result<(), AllocError>
+        ensures ok { OnOk result (files_in self.new ≡ put (files_in self.old) path.now (Some bytes.now)) }
+        ensures err { OnErr result (files_in self.new ≡ files_in self.old) }
+        ensures plan { plan_of self.new ≡ plan_of self.old }
+    {
+        let key = String::from_str(self.alloc, path)?;
+        let file = Vec::from_slice(self.alloc, bytes)?;
+        self.held.insert(key, file)?;
+        Ok(())
+    }
+
+    /// Makes `path` absent. This is no call that is numbered.
+    pub fn remove(&mut self, path: &str)
+        ensures files { files_in self.new ≡ put (files_in self.old) path.now None }
+        ensures plan { plan_of self.new ≡ plan_of self.old }
+    {
+        self.held.remove(path);
+    }
+
+    /// The file at `path`. This is no call that is numbered.
+    pub fn get(&self, path: &str) -> Option<&[u8]>
+        ensures { option_map (λ bytes. bytes.now) result ≡ files_in self.now path.now }
+    {
+        match self.held.get(path) {
+            None => None,
+            Some(bytes) => Some(bytes.as_slice()),
+        }
+    }
+
+    /// How many calls of `read` and `write` were numbered, 2^64 - 1 for that many and more.
+    pub fn calls(&self) -> u64
+        ensures { result ≡ (plan_of self.now).calls }
+    {
+        self.calls
+    }
+
+    fn is_failing(&self) -> bool
+        ensures { IsTrue result ↔ Contains (plan_of self.now).failing (plan_of self.now).calls }
+    {
+        self.failing.contains(&self.calls)
+    }
+
+    fn count_call(&mut self)
+        ensures files { files_in self.new ≡ files_in self.old }
+        ensures plan { plan_of self.new ≡ record (plan_of self.old) { calls = raised (plan_of self.old).calls } }
+    {
+        self.calls = self.calls.saturating_add(1);
+    }
+
+    fn count_failure(&mut self)
+        ensures files { files_in self.new ≡ files_in self.old }
+        ensures plan { plan_of self.new ≡ record (plan_of self.old) { calls = raised (plan_of self.old).calls; faults = raised (plan_of self.old).faults } }
+    {
+        self.count_call();
+        self.faults = self.faults.saturating_add(1);
+    }
+
+    // What the path holds, cut off at the limit.
+    fn found(&self, path: &str, limit: u64) -> Result<Got, AllocError>
+        ensures { IfOk result (IsReadOf (files_in self.now path.now) limit) }
+    {
+        match self.get(path) {
+            None => Ok(Got::Absent),
+            Some(bytes) if bytes.len() as u64 > limit => Ok(Got::TooLong),
+            Some(bytes) => Ok(Got::Bytes(Vec::from_slice(self.alloc, bytes)?)),
+        }
+    }
+}
+
+impl Files for MemFiles {
+    ghost use Rattle.std.specs.Prelude.{Some};
+    ghost use Rattle.elm_files.specs.Memory.{files_in, plan_of};
+
+    ghost tree = { λ m. Some (files_in m) };
+
+    ghost faults = { λ m _. (plan_of m).faults };
+
+    fn read(&mut self, path: &str, limit: u64) -> Result<Got, FileError>
+        ensures files { files_in self.new ≡ files_in self.old }
+        ensures answer { IfOk result (IsReadOf (files_in self.old path.now) limit) }
+        ensures failed { IsFailed result ↔ Contains (plan_of self.old).failing (plan_of self.old).calls }
+        ensures plan { plan_of self.new ≡ plan_after result (plan_of self.old) }
+    {
+        if self.is_failing() {
+            self.count_failure();
+            return Err(FileError::Failed);
+        }
+        match self.found(path, limit) {
+            Ok(got) => {
+                self.count_call();
+                Ok(got)
+            }
+            Err(_) => Err(FileError::NoMemory),
+        }
+    }
+
+    /// Where it fails, the path is absent afterwards.
+    fn write(&mut self, path: &str, bytes: &[u8]) -> Result<(), FileError>
+        ensures ok { OnOk result (files_in self.new ≡ put (files_in self.old) path.now (Some bytes.now)) }
+        ensures removed { OnFailed result (files_in self.new ≡ put (files_in self.old) path.now None) }
+        ensures no_memory { OnNoMemory result (files_in self.new ≡ files_in self.old) }
+        ensures elsewhere { OnFailed result (SameElsewhere path.now (Some (files_in self.old)) (Some (files_in self.new))) }
+        ensures failed { IsFailed result ↔ Contains (plan_of self.old).failing (plan_of self.old).calls }
+        ensures plan { plan_of self.new ≡ plan_after result (plan_of self.old) }
+    {
+        if self.is_failing() {
+            self.count_failure();
+            self.remove(path);
+            return Err(FileError::Failed);
+        }
+        match self.insert(path, bytes) {
+            Ok(()) => {
+                self.count_call();
+                Ok(())
+            }
+            Err(_) => Err(FileError::NoMemory),
+        }
+    }
+}
+
+/// A sink in memory. Those of its calls of `put` fail, and no others, whose numbers it was given, from 0.
+#[derive(Drop)]
+pub struct MemSink {
+    held: Vec<u8>,
+    failing: Vec<u64>,
+    calls: u64,
+    faults: u64,
+}
