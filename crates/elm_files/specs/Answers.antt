@@ -1,5 +1,5 @@
 -- The answers of a call on a file or a sink, and the count of its faults.
-use Rattle.std.specs.Prelude.{◌≡◌, ◌<◌, ◌↔◌, ⊤, ℕ, Result, Ok, Err}
+use Rattle.std.specs.Prelude.{◌≡◌, ◌<◌, ◌↔◌, ⊤, ℕ, List, Result, Ok, Err}
 use Rattle.elm_files.specs.declared.outside.FileError.{FileError}
 use Rattle.elm_files.specs.declared.outside.FileError.TheVariants.{Failed, NoMemory}
 
@@ -32,3 +32,11 @@ module _ {T : Type 0} where
   abbrev pub FailedIffRose : Result T FileError → ℕ → ℕ → Type 0
   FailedIffRose result before after =
       before < 18446744073709551615 → (IsFailed result ↔ (before < after))
+
+-- the count of some path rose
+abbrev pub SomeRose : (List ℕ → ℕ) → (List ℕ → ℕ) → Type 0
+SomeRose before after = (path : List ℕ) × (before path < after path)
+
+-- no path's count is full
+abbrev pub NoneFull : (List ℕ → ℕ) → Type 0
+NoneFull faults = (path : List ℕ) → faults path < 18446744073709551615

@@ -3,6 +3,8 @@
 
 mod memory;
 mod outside;
+mod trial;
 
 pub use memory::{MemFiles, MemSink};
 pub use outside::{FileError, Files, Got, Sink};
+pub use trial::copy;
