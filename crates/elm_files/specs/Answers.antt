@@ -1,5 +1,5 @@
 -- The answers of a call on a file or a sink, and the count of its faults.
-use Rattle.std.specs.Prelude.{◌≡◌, ◌<◌, ◌↔◌, ⊤, ℕ, List, Result, Ok, Err}
+use Rattle.std.specs.Prelude.{◌+◌, ◌<◌, nat_lt, if◌then◌else◌, ◌↔◌, ⊤, ℕ, List, Result, Ok, Err}
 use Rattle.elm_files.specs.declared.outside.FileError.{FileError}
 use Rattle.elm_files.specs.declared.outside.FileError.TheVariants.{Failed, NoMemory}
 
@@ -40,3 +40,13 @@ SomeRose before after = (path : List ℕ) × (before path < after path)
 -- no path's count is full
 abbrev pub NoneFull : (List ℕ → ℕ) → Type 0
 NoneFull faults = (path : List ℕ) → faults path < 18446744073709551615
+
+-- a count of 64 bits that is one higher, unless it is full
+abbrev pub raised : ℕ → ℕ
+raised n = if nat_lt n 18446744073709551615 then n + 1 else n
+
+-- the count of faults after a call
+abbrev pub faults_after : {T : Type 0} → Result T FileError → ℕ → ℕ
+faults_after (Ok _) faults = faults
+faults_after (Err Failed) faults = raised faults
+faults_after (Err NoMemory) faults = faults

@@ -1,6 +1,7 @@
 -- Files and sinks in memory: what they hold, and which of their calls fail.
-use Rattle.std.specs.Prelude.{◌≡◌, ◌+◌, ℕ, List, Option, None, option_map, nat_lt, if◌then◌else◌, Result, Ok, Err}
+use Rattle.std.specs.Prelude.{ℕ, List, Option, None, option_map, Result, Ok, Err}
 use Rattle.std.specs.BTreeMap.{get_by_text}
+use Rattle.elm_files.specs.Answers.{raised}
 use Rattle.elm_files.specs.Tree.{Tree}
 use Rattle.elm_files.specs.declared.memory.MemFiles.{MemFiles}
 use Rattle.elm_files.specs.declared.memory.MemSink.{MemSink}
@@ -32,10 +33,6 @@ plan_of files = record { failing = files.failing.items; calls = files.calls; fau
 -- the plan of the sink
 abbrev pub sink_plan_of : MemSink → Plan
 sink_plan_of sink = record { failing = sink.failing.items; calls = sink.calls; faults = sink.faults }
-
--- a count of 64 bits that is one higher, unless it is full
-abbrev pub raised : ℕ → ℕ
-raised n = if nat_lt n 18446744073709551615 then n + 1 else n
 
 -- the plan after a call: one call more, and one fault more where it failed; a call that wanted memory does not count
 abbrev pub plan_after : {T : Type 0} → Result T FileError → Plan → Plan

@@ -1,10 +1,11 @@
 //! Files and a sink in memory, for tests and for builds that touch no disk.
-ghost use Rattle.std.specs.Prelude.{◌≡◌, ◌↔◌, Contains, IfOk, IsTrue, None, OnErr, OnOk, Some, option_map};
-ghost use Rattle.elm_files.specs.Answers.{IsFailed, OnFailed, OnNoMemory};
-ghost use Rattle.elm_files.specs.Memory.{empty_tree, files_in, plan_after, plan_of, raised};
+ghost use Rattle.std.specs.Prelude.{◌≡◌, ◌↔◌, ◌++◌, [], Contains, IfOk, IsTrue, None, OnErr, OnOk, Some, option_map};
+ghost use Rattle.elm_files.specs.Answers.{IsFailed, OnFailed, OnNoMemory, raised};
+ghost use Rattle.elm_files.specs.Memory.{empty_tree, files_in, plan_after, plan_of, sink_plan_of, text_in};
+ghost use Rattle.elm_files.specs.Texts.{LongerByPart};
 ghost use Rattle.elm_files.specs.Tree.{IsReadOf, SameElsewhere, put};
 
-use crate::outside::{FileError, Files, Got};
+use crate::outside::{FileError, Files, Got, Sink};
 use std::alloc::{AllocError, Global};
 use std::collections::BTreeMap;
 
@@ -122,13 +123,9 @@ impl Files for MemFiles {
             self.count_failure();
             return Err(FileError::Failed);
         }
-        match self.found(path, limit) {
-            Ok(got) => {
-                self.count_call();
-                Ok(got)
-            }
-            Err(_) => Err(FileError::NoMemory),
-        }
+        let got = self.found(path, limit)?;
+        self.count_call();
+        Ok(got)
     }
 
     /// Where it fails, the path is absent afterwards.
@@ -145,13 +142,9 @@ impl Files for MemFiles {
             self.remove(path);
             return Err(FileError::Failed);
         }
-        match self.insert(path, bytes) {
-            Ok(()) => {
-                self.count_call();
-                Ok(())
-            }
-            Err(_) => Err(FileError::NoMemory),
-        }
+        self.insert(path, bytes)?;
+        self.count_call();
+        Ok(())
     }
 }
 
@@ -162,4 +155,60 @@ pub struct MemSink {
     failing: Vec<u64>,
     calls: u64,
     faults: u64,
+}
+
+impl MemSink {
+    /// Nothing was put. The calls with the numbers in `failing` are to fail.
+    pub fn new(alloc: Global, failing: Vec<u64>) -> Self
+        ensures text { text_in result ≡ [] }
+        ensures plan { sink_plan_of result ≡ record { failing = failing.items; calls = 0; faults = 0 } }
+    {
+        MemSink {
+            held: Vec::new(alloc),
+            failing,
+            calls: 0,
+            faults: 0,
+        }
+    }
+
+    /// What was put so far.
+    pub fn bytes(&self) -> &[u8]
+        ensures { result.now ≡ text_in self.now }
+    {
+        self.held.as_slice()
+    }
+
+    /// How many calls of `put` were numbered, 2^64 - 1 for that many and more.
+    pub fn calls(&self) -> u64
+        ensures { result ≡ (sink_plan_of self.now).calls }
+    {
+        self.calls
+    }
+}
+
+impl Sink for MemSink {
+    ghost use Rattle.std.specs.Prelude.{Some};
+    ghost use Rattle.elm_files.specs.Memory.{sink_plan_of, text_in};
+
+    ghost text = { λ s. Some (text_in s) };
+
+    ghost faults = { λ s. (sink_plan_of s).faults };
+
+    /// Where it fails, nothing is put.
+    fn put(&mut self, bytes: &[u8]) -> Result<(), FileError>
+        ensures ok { OnOk result (text_in self.new ≡ text_in self.old ++ bytes.now) }
+        ensures err { OnErr result (text_in self.new ≡ text_in self.old) }
+        ensures part { OnFailed result (LongerByPart (Some (text_in self.old)) bytes.now (Some (text_in self.new))) }
+        ensures failed { IsFailed result ↔ Contains (sink_plan_of self.old).failing (sink_plan_of self.old).calls }
+        ensures plan { sink_plan_of self.new ≡ plan_after result (sink_plan_of self.old) }
+    {
+        if self.failing.contains(&self.calls) {
+            self.calls = self.calls.saturating_add(1);
+            self.faults = self.faults.saturating_add(1);
+            return Err(FileError::Failed);
+        }
+        self.held.extend_from_slice(bytes)?;
+        self.calls = self.calls.saturating_add(1);
+        Ok(())
+    }
 }

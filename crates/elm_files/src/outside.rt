@@ -4,6 +4,8 @@ ghost use Rattle.elm_files.specs.Answers.{FailedIffRose, OnFailed, OnNoMemory, U
 ghost use Rattle.elm_files.specs.Texts.{LongerByPart, longer};
 ghost use Rattle.elm_files.specs.Tree.{IsReadOf, SameElsewhere, Tree, with_file};
 
+use std::alloc::AllocError;
+
 /// Files by their paths, each read and written whole.
 pub trait Files {
     // The tree that the object tells of, if it tells of one.
@@ -50,6 +52,17 @@ pub enum FileError {
     Failed,
     /// Memory was wanting. The call changed nothing.
     NoMemory,
+}
+
+impl From<AllocError> for FileError {
+    ghost use Rattle.std.specs.Prelude.{◌≡◌};
+    ghost use Rattle.elm_files.specs.declared.outside.FileError.TheVariants.{NoMemory};
+
+    ghost from_gives = { λ _ error. error ≡ NoMemory };
+
+    fn from(_error: AllocError) -> FileError {
+        FileError::NoMemory
+    }
 }
 
 /// Takes text piece by piece.
