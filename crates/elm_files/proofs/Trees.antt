@@ -20,3 +20,16 @@ put_elsewhere old new path file changed = record {
   told = refl;
   others = λ q differs. ap (λ (tree : Tree). tree q) changed ∙ put_other old path file q differs;
 }
+
+-- after a write each other path holds what it held
+pub file_at-with_file_other : (told : Option Tree) (path bytes q : List ℕ) → q ≢ path → file_at (with_file told path bytes) q ≡ file_at told q
+file_at-with_file_other None path bytes q differs = refl
+file_at-with_file_other (Some tree) path bytes q differs = put_other tree path (Some bytes) q differs
+
+-- after a write the path holds the bytes
+pub file_at-with_file : (told : Option Tree) (path bytes : List ℕ) → is_some told ≡ true → file_at (with_file told path bytes) path ≡ Some bytes
+file_at-with_file None path bytes tells = cc
+file_at-with_file (Some tree) path bytes tells = put_same tree path (Some bytes)
+
+-- for `grind`: what a tree holds after a write
+pub ruleset trees = (file_at-with_file_other, file_at-with_file, put_other, put_same)

@@ -160,3 +160,37 @@ impl<W: Write> Sink for HostSink<W> {
         counted(&mut self.faults, outcome)
     }
 }
+
+#[cfg(test)]
+mod tests {
+    use super::*;
+    use std::test::Fail;
+    use std::{env, process};
+
+    #[test]
+    fn writes_below_a_folder(rt: HostRuntime) -> Result<(), Fail> {
+        let temporary = env::temp_dir(&rt)?;
+        let folder = temporary.as_path().display();
+        let number = process::id(rt.process());
+        let root = format!(in rt.alloc(); "{folder}/elm_files_{number}")?;
+        let mut files = HostFiles::new(rt, root.clone()?);
+        files.write("src/A.elm", b"one")?;
+        assert!(rt;
+            matches!(&files.read("src/A.elm", 3)?, Got::Bytes(bytes) if bytes.as_slice() == b"one".as_slice())
+        );
+        assert!(rt; matches!(&files.read("src/A.elm", 2)?, Got::TooLong));
+        assert!(rt; matches!(&files.read("src/B.elm", 2)?, Got::Absent));
+        assert_eq!(rt; files.write("src/A.elm/B", b"two"), Err(FileError::Failed));
+        assert_eq!(rt; files.write("src", b"two"), Err(FileError::Failed));
+
+        let out = format!(in rt.alloc(); "{root}/out")?;
+        let mut sink = HostSink::new(File::create(&rt, out.as_str())?);
+        sink.put(b"one ")?;
+        sink.put(b"two")?;
+        assert!(rt;
+            matches!(&files.read("out", 9)?, Got::Bytes(bytes) if bytes.as_slice() == b"one two".as_slice())
+        );
+        fs::remove_dir_all(&rt, root.as_str())?;
+        Ok(())
+    }
+}

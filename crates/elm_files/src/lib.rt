@@ -4,9 +4,7 @@
 mod host;
 mod memory;
 mod outside;
-mod trial;
 
 pub use host::{HostFiles, HostSink};
 pub use memory::{MemFiles, MemSink};
 pub use outside::{FileError, Files, Got, Sink};
-pub use trial::copy;

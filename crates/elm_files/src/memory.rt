@@ -1,7 +1,7 @@
 //! Files and a sink in memory, for tests and for builds that touch no disk.
 ghost use Rattle.std.specs.Prelude.{◌≡◌, ◌↔◌, ◌++◌, [], Contains, IfOk, IsTrue, None, OnErr, OnOk, Some, option_map};
-ghost use Rattle.elm_files.specs.Answers.{IsFailed, OnFailed, OnNoMemory, raised};
-ghost use Rattle.elm_files.specs.Memory.{empty_tree, files_in, plan_after, plan_of, sink_plan_of, text_in};
+ghost use Rattle.elm_files.specs.Answers.{IsFailed, OnFailed, OnNoMemory};
+ghost use Rattle.elm_files.specs.Memory.{empty_tree, files_in, one_failed, one_made, plan_after, plan_in, plan_of, sink_plan_of, text_in};
 ghost use Rattle.elm_files.specs.Texts.{LongerByPart};
 ghost use Rattle.elm_files.specs.Tree.{IsReadOf, SameElsewhere, put};
 
@@ -9,15 +9,53 @@ use crate::outside::{FileError, Files, Got, Sink};
 use std::alloc::{AllocError, Global};
 use std::collections::BTreeMap;
 
+// The numbers of the calls that are to fail, how many calls there were, and how many of them failed.
+#[derive(Drop)]
+struct Calls {
+    failing: Vec<u64>,
+    made: u64,
+    faults: u64,
+}
+
+impl Calls {
+    fn new(failing: Vec<u64>) -> Self
+        ensures { plan_in result ≡ record { failing = failing.items; calls = 0; faults = 0 } }
+    {
+        Calls {
+            failing,
+            made: 0,
+            faults: 0,
+        }
+    }
+
+    // Is the next call to fail?
+    fn is_failing(&self) -> bool
+        ensures { IsTrue result ↔ Contains (plan_in self.now).failing (plan_in self.now).calls }
+    {
+        self.failing.contains(&self.made)
+    }
+
+    fn count_made(&mut self)
+        ensures { plan_in self.new ≡ one_made (plan_in self.old) }
+    {
+        self.made = self.made.saturating_add(1);
+    }
+
+    fn count_failed(&mut self)
+        ensures { plan_in self.new ≡ one_failed (plan_in self.old) }
+    {
+        self.count_made();
+        self.faults = self.faults.saturating_add(1);
+    }
+}
+
 /// Files in memory. Those of its calls of `read` and `write` fail, and no others, whose numbers it was given;
 /// both are numbered together, from 0.
 #[derive(Drop)]
 pub struct MemFiles {
     alloc: Global,
     held: BTreeMap<String, Vec<u8>>,
-    failing: Vec<u64>,
-    calls: u64,
-    faults: u64,
+    calls: Calls,
 }
 
 impl MemFiles {
@@ -29,9 +67,7 @@ impl MemFiles {
         MemFiles {
             alloc,
             held: BTreeMap::new(alloc),
-            failing,
-            calls: 0,
-            faults: 0,
+            calls: Calls::new(failing),
         }
     }
 
@@ -69,28 +105,7 @@ impl MemFiles {
     pub fn calls(&self) -> u64
         ensures { result ≡ (plan_of self.now).calls }
     {
-        self.calls
-    }
-
-    fn is_failing(&self) -> bool
-        ensures { IsTrue result ↔ Contains (plan_of self.now).failing (plan_of self.now).calls }
-    {
-        self.failing.contains(&self.calls)
-    }
-
-    fn count_call(&mut self)
-        ensures files { files_in self.new ≡ files_in self.old }
-        ensures plan { plan_of self.new ≡ record (plan_of self.old) { calls = raised (plan_of self.old).calls } }
-    {
-        self.calls = self.calls.saturating_add(1);
-    }
-
-    fn count_failure(&mut self)
-        ensures files { files_in self.new ≡ files_in self.old }
-        ensures plan { plan_of self.new ≡ record (plan_of self.old) { calls = raised (plan_of self.old).calls; faults = raised (plan_of self.old).faults } }
-    {
-        self.count_call();
-        self.faults = self.faults.saturating_add(1);
+        self.calls.made
     }
 
     // What the path holds, cut off at the limit.
@@ -119,12 +134,12 @@ impl Files for MemFiles {
         ensures failed { IsFailed result ↔ Contains (plan_of self.old).failing (plan_of self.old).calls }
         ensures plan { plan_of self.new ≡ plan_after result (plan_of self.old) }
     {
-        if self.is_failing() {
-            self.count_failure();
+        if self.calls.is_failing() {
+            self.calls.count_failed();
             return Err(FileError::Failed);
         }
         let got = self.found(path, limit)?;
-        self.count_call();
+        self.calls.count_made();
         Ok(got)
     }
 
@@ -137,13 +152,13 @@ impl Files for MemFiles {
         ensures failed { IsFailed result ↔ Contains (plan_of self.old).failing (plan_of self.old).calls }
         ensures plan { plan_of self.new ≡ plan_after result (plan_of self.old) }
     {
-        if self.is_failing() {
-            self.count_failure();
+        if self.calls.is_failing() {
             self.remove(path);
+            self.calls.count_failed();
             return Err(FileError::Failed);
         }
         self.insert(path, bytes)?;
-        self.count_call();
+        self.calls.count_made();
         Ok(())
     }
 }
@@ -152,9 +167,7 @@ impl Files for MemFiles {
 #[derive(Drop)]
 pub struct MemSink {
     held: Vec<u8>,
-    failing: Vec<u64>,
-    calls: u64,
-    faults: u64,
+    calls: Calls,
 }
 
 impl MemSink {
@@ -165,9 +178,7 @@ impl MemSink {
     {
         MemSink {
             held: Vec::new(alloc),
-            failing,
-            calls: 0,
-            faults: 0,
+            calls: Calls::new(failing),
         }
     }
 
@@ -182,7 +193,7 @@ impl MemSink {
     pub fn calls(&self) -> u64
         ensures { result ≡ (sink_plan_of self.now).calls }
     {
-        self.calls
+        self.calls.made
     }
 }
 
@@ -202,13 +213,55 @@ impl Sink for MemSink {
         ensures failed { IsFailed result ↔ Contains (sink_plan_of self.old).failing (sink_plan_of self.old).calls }
         ensures plan { sink_plan_of self.new ≡ plan_after result (sink_plan_of self.old) }
     {
-        if self.failing.contains(&self.calls) {
-            self.calls = self.calls.saturating_add(1);
-            self.faults = self.faults.saturating_add(1);
+        if self.calls.is_failing() {
+            self.calls.count_failed();
             return Err(FileError::Failed);
         }
         self.held.extend_from_slice(bytes)?;
-        self.calls = self.calls.saturating_add(1);
+        self.calls.count_made();
+        Ok(())
+    }
+}
+
+#[cfg(test)]
+mod tests {
+    use super::*;
+    use std::test::Fail;
+
+    fn read<F: Files>(files: &mut F, path: &str, limit: u64) -> Result<Got, FileError> {
+        files.read(path, limit)
+    }
+
+    fn put<S: Sink>(sink: &mut S, bytes: &[u8]) -> Result<(), FileError> {
+        sink.put(bytes)
+    }
+
+    #[test]
+    fn files_fail_where_told(rt: HostRuntime) -> Result<(), Fail> {
+        let mut files = MemFiles::new(rt.alloc(), vec![in rt.alloc(); 1, 4]?);
+        files.insert("src/A.elm", b"one")?;
+        assert!(rt; matches!(&read(&mut files, "src/A.elm", 3)?, Got::Bytes(_)));
+        assert_eq!(rt; read(&mut files, "src/A.elm", 3).is_ok(), false);
+        assert!(rt; matches!(&read(&mut files, "src/A.elm", 2)?, Got::TooLong));
+        files.write("src/A.elm", b"two")?;
+        assert_eq!(rt; files.get("src/A.elm").is_some(), true);
+        assert_eq!(rt; files.write("src/A.elm", b"three"), Err(FileError::Failed));
+        assert!(rt; matches!(&read(&mut files, "src/A.elm", 9)?, Got::Absent));
+        assert_eq!(rt; files.calls(), 6);
+        files.insert("src/A.elm", b"four")?;
+        files.remove("src/A.elm");
+        assert_eq!(rt; files.get("src/A.elm").is_some(), false);
+        Ok(())
+    }
+
+    #[test]
+    fn a_sink_fails_where_told(rt: HostRuntime) -> Result<(), Fail> {
+        let mut sink = MemSink::new(rt.alloc(), vec![in rt.alloc(); 1]?);
+        put(&mut sink, b"one ")?;
+        assert_eq!(rt; put(&mut sink, b"lost"), Err(FileError::Failed));
+        put(&mut sink, b"two")?;
+        assert_eq!(rt; sink.bytes(), b"one two".as_slice());
+        assert_eq!(rt; sink.calls(), 3);
         Ok(())
     }
 }
