@@ -1,5 +1,5 @@
 -- Files and sinks in memory: what they hold, and which of their calls fail.
-use Rattle.std.specs.Prelude.{ℕ, List, Option, None, option_map, Result, Ok, Err}
+use Rattle.std.specs.Prelude.{ℕ, List, None, option_map, Result, Ok, Err}
 use Rattle.std.specs.BTreeMap.{get_by_text}
 use Rattle.elm_files.specs.Answers.{raised}
 use Rattle.elm_files.specs.Tree.{Tree}
