@@ -1,0 +1,5 @@
+pub mod Answers
+pub mod Host
+pub mod Memory
+pub mod Texts
+pub mod Tree
