@@ -32,3 +32,9 @@ abbrev pub IsReadOf : Option (List ℕ) → ℕ → Got → Type 0
 IsReadOf file limit Absent = file ≡ None
 IsReadOf file limit (Bytes bytes) = (file ≡ Some bytes.items) × (length bytes.items ≤ limit)
 IsReadOf file limit TooLong = IsSomeAnd file (λ bytes. limit < length bytes)
+
+-- bytes that were read are no more than the limit, whether a tree is told or not
+abbrev pub IsWithin : ℕ → Got → Type 0
+IsWithin limit Absent = Unit {0}
+IsWithin limit (Bytes bytes) = length bytes.items ≤ limit
+IsWithin limit TooLong = Unit {0}

@@ -1,8 +1,9 @@
 //! Files of the host below a folder, and a sink over a writer of the host. What they hold is the host's own, so
 //! they tell of no tree and of no text.
-ghost use Rattle.std.specs.Prelude.{◌≡◌};
+ghost use Rattle.std.specs.Prelude.{◌≡◌, IfOk};
 ghost use Rattle.elm_files.specs.Answers.{faults_after};
 ghost use Rattle.elm_files.specs.Host.{file_faults, sink_faults};
+ghost use Rattle.elm_files.specs.Tree.{IsWithin};
 
 use crate::outside::{FileError, Files, Got, Sink};
 use std::alloc::AllocError;
@@ -36,7 +37,9 @@ impl<R: rt::Files + AllocGlobal> HostFiles<R> {
         format!(in self.runtime.alloc(); "{root}/{path}")
     }
 
-    fn fetch(&self, path: &str, limit: u64) -> Result<Got, FileError> {
+    fn fetch(&self, path: &str, limit: u64) -> Result<Got, FileError>
+        ensures { IfOk result (IsWithin limit) }
+    {
         let place = self.place(path)?;
         match File::open(&self.runtime, place.as_str()) {
             Ok(file) => self.front(file, limit),
@@ -46,7 +49,9 @@ impl<R: rt::Files + AllocGlobal> HostFiles<R> {
     }
 
     // Reads one byte more than the limit at most.
-    fn front(&self, file: R::File, limit: u64) -> Result<Got, FileError> {
+    fn front(&self, file: R::File, limit: u64) -> Result<Got, FileError>
+        ensures { IfOk result (IsWithin limit) }
+    {
         let mut bytes = Vec::new(self.runtime.alloc());
         let mut front = file.take(limit.saturating_add(1));
         match front.read_to_end(&mut bytes) {

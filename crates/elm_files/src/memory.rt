@@ -3,7 +3,7 @@ ghost use Rattle.std.specs.Prelude.{◌≡◌, ◌↔◌, ◌++◌, [], Contains
 ghost use Rattle.elm_files.specs.Answers.{IsFailed, OnFailed, OnNoMemory};
 ghost use Rattle.elm_files.specs.Memory.{empty_tree, files_in, one_failed, one_made, plan_after, plan_in, plan_of, sink_plan_of, text_in};
 ghost use Rattle.elm_files.specs.Texts.{LongerByPart};
-ghost use Rattle.elm_files.specs.Tree.{IsReadOf, SameElsewhere, put};
+ghost use Rattle.elm_files.specs.Tree.{IsReadOf, IsWithin, SameElsewhere, put};
 
 use crate::outside::{FileError, Files, Got, Sink};
 use std::alloc::{AllocError, Global};
@@ -110,7 +110,8 @@ impl MemFiles {
 
     // What the path holds, cut off at the limit.
     fn found(&self, path: &str, limit: u64) -> Result<Got, AllocError>
-        ensures { IfOk result (IsReadOf (files_in self.now path.now) limit) }
+        ensures answer { IfOk result (IsReadOf (files_in self.now path.now) limit) }
+        ensures within { IfOk result (IsWithin limit) }
     {
         match self.get(path) {
             None => Ok(Got::Absent),
@@ -131,6 +132,7 @@ impl Files for MemFiles {
     fn read(&mut self, path: &str, limit: u64) -> Result<Got, FileError>
         ensures files { files_in self.new ≡ files_in self.old }
         ensures answer { IfOk result (IsReadOf (files_in self.old path.now) limit) }
+        ensures within { IfOk result (IsWithin limit) }
         ensures failed { IsFailed result ↔ Contains (plan_of self.old).failing (plan_of self.old).calls }
         ensures plan { plan_of self.new ≡ plan_after result (plan_of self.old) }
     {

@@ -2,7 +2,7 @@
 ghost use Rattle.std.specs.Prelude.{◌≡◌, ◌≤◌, ℕ, List, Option, IfOk, OnOk, IfSome};
 ghost use Rattle.elm_files.specs.Answers.{FailedIffRose, OnFailed, OnNoMemory, UnlessFailed};
 ghost use Rattle.elm_files.specs.Texts.{LongerByPart, longer};
-ghost use Rattle.elm_files.specs.Tree.{IsReadOf, SameElsewhere, Tree, with_file};
+ghost use Rattle.elm_files.specs.Tree.{IsReadOf, IsWithin, SameElsewhere, Tree, with_file};
 
 use std::alloc::AllocError;
 
@@ -18,6 +18,7 @@ pub trait Files {
     fn read(&mut self, path: &str, limit: u64) -> Result<Got, FileError>
         ensures tree { tree self.new ≡ tree self.old }
         ensures answer { IfOk result (λ got. IfSome (tree self.old) (λ told. IsReadOf (told path.now) limit got)) }
+        ensures within { IfOk result (IsWithin limit) }
 
         ensures failed { FailedIffRose result (faults self.old path.now) (faults self.new path.now) }
         ensures never_falls { (q : List ℕ) → faults self.old q ≤ faults self.new q }

@@ -1,8 +1,8 @@
 //! From the text of a module to the text of its program.
 
-use crate::emission::output;
 ghost use Rattle.std.specs.Prelude.{◌≤◌, length};
 
+use crate::emission::output;
 use crate::parser::{ParseError, parse_module};
 use elm_lexer::{LexError, tokens};
 use std::alloc::{AllocError, Global};

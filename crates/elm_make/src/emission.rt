@@ -13,11 +13,13 @@ const Platform$worker=($$0=>{return {"$":0,"a0":$$0};});
 "##;
 
 /// The port's line, and the line of `main` up to the argument of `out`.
-const BEFORE_ARGUMENT: &[u8] = br##"const Main$out=($$0=>{return {"$":0,"a0":"out","a1":_eSame()($$0)};});
+const BEFORE_ARGUMENT: &[u8] =
+    br##"const Main$out=($$0=>{return {"$":0,"a0":"out","a1":_eSame()($$0)};});
 const Main$main=Platform$worker({"init":($$0=>{return {"$":0,"a0":0,"a1":Main$out("##;
 
 /// The line of `main` behind the argument of `out`, and the line of `_main`.
-const BEHIND_ARGUMENT: &[u8] = br##")};}),"update":($$1=>{return ($m=>{return {"$":0,"a0":$m,"a1":Platform$Cmd$none};});}),"subscriptions":($$2=>{return Platform$Sub$none;})});
+const BEHIND_ARGUMENT: &[u8] =
+    br##")};}),"update":($$1=>{return ($m=>{return {"$":0,"a0":$m,"a1":Platform$Cmd$none};});}),"subscriptions":($$2=>{return Platform$Sub$none;})});
 const _main={"name":"Main","program":Main$main,"flags":_dAny(),"ins":{},"outs":{"out":0}};
 "##;
 
@@ -34,6 +36,7 @@ pub fn output(alloc: Global, argument: &Expr) -> Result<Vec<u8>, AllocError> {
 }
 
 /// Adds the JavaScript of an expression: a literal in decimal, a sum as `(a+b)`, grouped from the left.
+#[cycle(emission)]
 fn write_expr(text: &mut Vec<u8>, expr: &Expr) -> Result<(), AllocError> {
     match expr {
         Expr::Int(value) => {
@@ -44,6 +47,7 @@ fn write_expr(text: &mut Vec<u8>, expr: &Expr) -> Result<(), AllocError> {
     }
 }
 
+#[cycle(emission)]
 fn write_sum(text: &mut Vec<u8>, operands: &Vec<Expr>) -> Result<(), AllocError> {
     for _ in 1..operands.len() {
         text.push(b'(')?;

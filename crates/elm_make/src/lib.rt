@@ -4,13 +4,13 @@
 //! are private parts of this crate.
 #![tactic(auto)]
 
-mod build;
 mod compile;
 mod emission;
 mod expr;
 mod lines;
 mod parser;
 mod paths;
+mod project;
 mod runtime;
 
-pub use build::{BuildEnd, Built, Outcome, build};
+pub use project::{BuildEnd, Built, Outcome, build};

@@ -1,6 +1,8 @@
 //! The lines that a build prints.
 
-use elm_base::{Code, Fault, Pos, Region, Text, fault_line};
+use elm_base::fault::{Code, Fault, fault_line};
+use elm_base::position::{Pos, Region};
+use elm_base::text::Text;
 use std::alloc::{AllocError, Global};
 
 /// The line of a fault without detail at the start of a file.

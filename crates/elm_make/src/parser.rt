@@ -4,6 +4,8 @@
 //! the number is an argument expression: an Int literal, or in brackets Int literals, `+` and brackets. The header and
 //! each declaration begin in column 1, and every other token stands right of it.
 
+ghost use Rattle.std.specs.Prelude.{◌<◌, IfOk, IfSome, length};
+
 use crate::expr::Expr;
 use elm_lexer::{Kind, Token};
 use std::alloc::{AllocError, AllocFailed, Global};
@@ -53,7 +55,9 @@ const HEADER: [&[u8]; 7] = [
 const PORT: [&[u8]; 7] = [b"port", b"out", b":", b"Int", b"->", b"Cmd", b"msg"];
 
 /// `main : Program () () ()`
-const ANNOTATION: [&[u8]; 9] = [b"main", b":", b"Program", b"(", b")", b"(", b")", b"(", b")"];
+const ANNOTATION: [&[u8]; 9] = [
+    b"main", b":", b"Program", b"(", b")", b"(", b")", b"(", b")",
+];
 
 /// The definition of `main` up to the argument of `out`.
 const DEFINITION: [&[u8]; 14] = [
@@ -119,20 +123,14 @@ fn declaration<'t, 'a>(
     wanted: &[&[u8]],
 ) -> Result<&'t [Token<'a>], ParseError> {
     match (tokens, wanted) {
-        ([token, rest @ ..], [word, more @ ..])
-            if token.start.column == 1 && token.text == *word =>
-        {
-            words(rest, more)
-        }
+        ([token, rest @ ..], [word, more @ ..]) if token.start.column == 1 && token.text == *word =>
+            { words(rest, more) }
         _ => Err(ParseError::NotAccepted),
     }
 }
 
 /// Takes these words, each right of column 1.
-fn words<'t, 'a>(
-    tokens: &'t [Token<'a>],
-    wanted: &[&[u8]],
-) -> Result<&'t [Token<'a>], ParseError> {
+fn words<'t, 'a>(tokens: &'t [Token<'a>], wanted: &[&[u8]]) -> Result<&'t [Token<'a>], ParseError> {
     let mut rest = tokens;
     for word in wanted {
         rest = match rest {
@@ -144,7 +142,9 @@ fn words<'t, 'a>(
 }
 
 /// The next token, if it stands right of column 1, and those after it.
-fn next<'t, 'a>(tokens: &'t [Token<'a>]) -> Option<(Kind, &'t [Token<'a>])> {
+fn next<'t, 'a>(tokens: &'t [Token<'a>]) -> Option<(Kind, &'t [Token<'a>])>
+    ensures { IfSome result (λ x. length x.1.now < length tokens.now) }
+{
     match tokens {
         [token, rest @ ..] if token.start.column > 1 => Some((token.kind, rest)),
         _ => None,
@@ -157,7 +157,9 @@ fn atom<'t, 'a>(
     alloc: Global,
     tokens: &'t [Token<'a>],
     open: u32,
-) -> Result<(Expr, &'t [Token<'a>]), ParseError> {
+) -> Result<(Expr, &'t [Token<'a>]), ParseError>
+    ensures { IfOk result (λ x. length x.1.now < length tokens.now) }
+{
     match next(tokens) {
         Some((Kind::Int(value), rest)) => Ok((Expr::Int(value), rest)),
         Some((Kind::OpenParen, rest)) if open < MAX_OPEN => {
@@ -177,30 +179,32 @@ fn sum<'t, 'a>(
     alloc: Global,
     tokens: &'t [Token<'a>],
     open: u32,
-) -> Result<(Expr, &'t [Token<'a>]), ParseError> {
+) -> Result<(Expr, &'t [Token<'a>]), ParseError>
+    ensures { IfOk result (λ x. length x.1.now < length tokens.now) }
+{
     let (first, mut rest) = atom(alloc, tokens, open)?;
-    let Some(after) = plus(rest) else {
+    if plus(rest).is_none() {
         return Ok((first, rest));
-    };
+    }
     let mut operands = Vec::new(alloc);
     operands.push(first)?;
-    let mut behind_plus = Some(after);
-    while let Some(after) = behind_plus {
+    while let Some(after) = plus(rest) {
         if operands.len() > MAX_OPERATORS {
             return Err(ParseError::NotAccepted);
         }
         let (operand, after) = atom(alloc, after, open)?;
         operands.push(operand)?;
         rest = after;
-        behind_plus = plus(rest);
     }
     Ok((Expr::Sum(operands), rest))
 }
 
 /// What follows the next token, if that is `+`.
-fn plus<'t, 'a>(tokens: &'t [Token<'a>]) -> Option<&'t [Token<'a>]> {
+fn plus<'t, 'a>(tokens: &'t [Token<'a>]) -> Option<&'t [Token<'a>]>
+    ensures { IfSome result (λ rest. length rest.now < length tokens.now) }
+{
     match tokens {
-        [token, rest @ ..] if token.start.column > 1 && token.text == b"+" => Some(rest),
+        [token, rest @ ..] if token.start.column > 1 && token.text == b"+".as_slice() => Some(rest),
         _ => None,
     }
 }

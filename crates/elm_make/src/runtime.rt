@@ -60,7 +60,8 @@ const _eRecord=(...f)=>v=>{const r={};for(let i=0;i<f.length;i+=2){r[f[i]]=f[i+1
 "##;
 
 /// What an output ends with: `init`, the queue of sends, and the ports of the started program.
-pub const TAIL: &[u8] = br##"const _flat=(b,o)=>{if(b["$"]===0){o.push(b);}else{for(const x of _array(b["a0"])){_flat(x,o);}}return o;};
+pub const TAIL: &[u8] =
+    br##"const _flat=(b,o)=>{if(b["$"]===0){o.push(b);}else{for(const x of _array(b["a0"])){_flat(x,o);}}return o;};
 const _init=o=>{
 const f=_main["flags"](o?o["flags"]:null);
 if(f===undefined){throw new Error("flags refused");}

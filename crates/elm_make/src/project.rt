@@ -1,10 +1,15 @@
 //! One build of a project.
 
+ghost use Rattle.std.specs.Prelude.{◌≤◌, IfErr, length};
+ghost use Rattle.elm_files.specs.Answers.{NoneFull};
+ghost use Rattle.elm_make.specs.End.{HasCause, IsEndAt};
+
 use crate::compile::{MAX_TEXT, compile};
 use crate::lines::{compiled, refusal};
 use crate::paths::{is_absolute, is_entry, is_output, normal};
 use build_workers::Gate;
-use elm_base::{Code, Fault, Text};
+use elm_base::fault::{Code, Fault};
+use elm_base::text::Text;
 use elm_files::{FileError, Files, Got};
 use std::alloc::{AllocError, AllocFailed, Global};
 use std::sync::Wait;
@@ -43,12 +48,22 @@ pub enum BuildEnd {
 }
 
 impl From<AllocError> for BuildEnd {
+    ghost use Rattle.std.specs.Prelude.{◌≡◌};
+    ghost use Rattle.elm_make.specs.declared.project.BuildEnd.TheVariants.{NoMemory};
+
+    ghost from_gives = { λ _ e. e ≡ NoMemory };
+
     fn from(_error: AllocError) -> BuildEnd {
         BuildEnd::NoMemory
     }
 }
 
 impl<T: Drop> From<AllocFailed<T>> for BuildEnd {
+    ghost use Rattle.std.specs.Prelude.{◌≡◌};
+    ghost use Rattle.elm_make.specs.declared.project.BuildEnd.TheVariants.{NoMemory};
+
+    ghost from_gives = { λ _ e. e ≡ NoMemory };
+
     fn from(_error: AllocFailed<T>) -> BuildEnd {
         BuildEnd::NoMemory
     }
@@ -66,25 +81,28 @@ pub fn build<R: Threads + Wait + Sync, F: Files, G: Gate + Sync>(
     output: &str,
     _jobs: u32,
     gate: &G,
-) -> Result<Built, BuildEnd> {
+) -> Result<Built, BuildEnd>
+    requires { NoneFull (F.faults files.old) }
+    ensures { IfErr result (λ end. HasCause end (F.faults files.old) (F.faults files.new)) }
+{
     let file = normal(alloc, output)?;
     if is_absolute(output) {
-        return stopped(alloc, Code::BadOutput, output);
+        return Ok(stopped(alloc, Code::BadOutput, output)?);
     }
     if !is_output(&file) {
-        return stopped(alloc, Code::BadOutput, &file);
+        return Ok(stopped(alloc, Code::BadOutput, &file)?);
     }
     let source = normal(alloc, entry)?;
     if is_absolute(entry) {
-        return stopped(alloc, Code::EntryNotFound, entry);
+        return Ok(stopped(alloc, Code::EntryNotFound, entry)?);
     }
     if !is_entry(&source) {
-        return stopped(alloc, Code::EntryNotFound, &source);
+        return Ok(stopped(alloc, Code::EntryNotFound, &source)?);
     }
     match files.read(&source, MAX_TEXT) {
         Ok(Got::Bytes(text)) => build_text(alloc, files, gate, &source, &text, &file),
-        Ok(Got::TooLong) => refused(alloc, &source),
-        Ok(Got::Absent) => stopped(alloc, Code::EntryNotFound, &source),
+        Ok(Got::TooLong) => Ok(refused(alloc, &source)?),
+        Ok(Got::Absent) => Ok(stopped(alloc, Code::EntryNotFound, &source)?),
         Err(error) => Err(failed(alloc, error, &source)),
     }
 }
@@ -97,12 +115,16 @@ fn build_text<F: Files, G: Gate>(
     source: &str,
     text: &[u8],
     file: &str,
-) -> Result<Built, BuildEnd> {
+) -> Result<Built, BuildEnd>
+    requires short { length text.now ≤ 4194304 }
+    requires none_full { NoneFull (F.faults files.old) }
+    ensures { IfErr result (λ end. HasCause end (F.faults files.old) (F.faults files.new)) }
+{
     gate.before(0, 0);
     let program = compile(alloc, text)?;
     gate.after(0, 0);
     let Some(program) = program else {
-        return refused(alloc, source);
+        return Ok(refused(alloc, source)?);
     };
     let lines = compiled(alloc, file)?;
     match files.write(file, &program) {
@@ -117,7 +139,9 @@ fn build_text<F: Files, G: Gate>(
 }
 
 /// The end of a build whose call on the file at `path` was refused.
-fn failed(alloc: Global, error: FileError, path: &str) -> BuildEnd {
+fn failed(alloc: Global, error: FileError, path: &str) -> BuildEnd
+    ensures { IsEndAt result path.now error }
+{
     match error {
         FileError::Failed => match Text::copy(alloc, path.as_bytes()) {
             Ok(path) => BuildEnd::File(path),
@@ -128,7 +152,7 @@ fn failed(alloc: Global, error: FileError, path: &str) -> BuildEnd {
 }
 
 /// A build that stopped for a fault of the file at `path`.
-fn stopped(alloc: Global, code: Code, path: &str) -> Result<Built, BuildEnd> {
+fn stopped(alloc: Global, code: Code, path: &str) -> Result<Built, AllocError> {
     let (fault, lines) = refusal(alloc, code, path)?;
     let mut faults = Vec::new(alloc);
     faults.push(fault)?;
@@ -141,7 +165,7 @@ fn stopped(alloc: Global, code: Code, path: &str) -> Result<Built, BuildEnd> {
 }
 
 /// A build of a project whose one module, at `path`, is not accepted.
-fn refused(alloc: Global, path: &str) -> Result<Built, BuildEnd> {
+fn refused(alloc: Global, path: &str) -> Result<Built, AllocError> {
     let (fault, lines) = refusal(alloc, Code::NotYet, path)?;
     let mut faults = Vec::new(alloc);
     faults.push(fault)?;

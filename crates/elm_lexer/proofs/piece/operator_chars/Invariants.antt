@@ -1,0 +1,13 @@
+use Rattle.std.proofs.Common.{◌≡◌, ℕ, ◌+◌, ◌-◌, ◌*◌, ◌<◌, ◌≤◌, List, length, true}
+use Rattle.elm_lexer.specs.Characters.{is_operator_char}
+use Rattle.elm_lexer.specs.Lengths.{run}
+use Rattle.elm_lexer.proofs.piece.operator_chars.Given as goal
+
+abbrev pub invariant-loop-rest : goal.invariant-loop-rest
+invariant-loop-rest l = record {
+  within : l.count + length l.rest ≡ length l.text;
+  same : l.count + run is_operator_char l.rest ≡ run is_operator_char l.text;
+}
+
+abbrev pub decreases-loop-rest : goal.decreases-loop-rest
+decreases-loop-rest l = length l.rest

@@ -1,0 +1,90 @@
+-- What a piece is, if it is a token.
+use Rattle.std.specs.Prelude.{ℕ, ◌+◌, ◌-◌, ◌*◌, Bool, true, false, ◌&&◌, if◌then◌else◌, ◌==◌, nat_le, List, [], ◌∷◌, Option, Some, None, option_and_then, codes}
+use Rattle.std.specs.List.{list_all, list_any}
+use Rattle.std.specs.Str.{bytes_eq}
+use Rattle.elm_lexer.specs.declared.token.Kind.{Kind}
+use Rattle.elm_lexer.specs.declared.token.Kind.TheVariants.{If, Then, Else, Case, Of, Let, In, «Type», Module, Where, Import, Exposing, As, Port, LowerName, UpperName, QualifiedLower, QualifiedUpper, Int, Underscore, OpenParen, CloseParen, OpenBrace, CloseBrace, OpenBracket, CloseBracket, Comma, Backslash, Equals, Arrow, Colon, Bar, Dot, Dots, Operator}
+use Rattle.elm_lexer.specs.Characters.{is_letter, is_upper, is_digit, is_hex_digit, is_between, is_mark, is_operator_char}
+
+-- the kind that stands beside the piece in the table, or the other kind
+abbrev pub kind_in : List (List ℕ × Kind) → List ℕ → Kind → Kind
+kind_in [] piece other = other
+kind_in (row ∷ rows) piece other = if bytes_eq piece row.0 then row.1 else kind_in rows piece other
+
+abbrev pub reserved_words : List (List ℕ × Kind)
+reserved_words =
+    (codes "if", If) ∷ (codes "then", Then) ∷ (codes "else", Else) ∷ (codes "case", Case) ∷ (codes "of", Of) ∷ (codes "let", Let) ∷ (codes "in", In)
+    ∷ (codes "type", «Type») ∷ (codes "module", Module) ∷ (codes "where", Where) ∷ (codes "import", Import) ∷ (codes "exposing", Exposing) ∷ (codes "as", As) ∷ (codes "port", Port) ∷ []
+
+abbrev pub marks : List (List ℕ × Kind)
+marks =
+    (codes "(", OpenParen) ∷ (codes ")", CloseParen) ∷ (codes "{", OpenBrace) ∷ (codes "}", CloseBrace)
+    ∷ (codes "[", OpenBracket) ∷ (codes "]", CloseBracket) ∷ (codes ",", Comma) ∷ []
+
+abbrev pub operators : List (List ℕ × Kind)
+operators = (codes "=", Equals) ∷ (codes "->", Arrow) ∷ (codes ":", Colon) ∷ (codes "|", Bar) ∷ (codes "..", Dots) ∷ (codes ".", Dot) ∷ []
+
+-- the case of a name's first letter
+abbrev pub begins_upper : List ℕ → Bool
+begins_upper [] = false
+begins_upper (c ∷ cs) = is_upper c
+
+-- the last word of a name: behind each point (46) a new word begins
+abbrev pub last_word : List ℕ → List ℕ → List ℕ
+last_word word [] = word
+last_word word (c ∷ cs) = if c == 46 then last_word cs cs else last_word word cs
+
+abbrev pub name_kind : List ℕ → Kind
+name_kind name =
+    if list_any (λ c. c == 46) name
+      then (if begins_upper (last_word name name) then QualifiedUpper else QualifiedLower)
+      else kind_in reserved_words name (if begins_upper name then UpperName else LowerName)
+
+-- a digit from 1 to 9, and digits
+abbrev pub is_decimal : List ℕ → Bool
+is_decimal [] = false
+is_decimal (c ∷ cs) = is_between 49 57 c && list_all is_digit cs
+
+-- 0x, and one hexadecimal digit or more
+abbrev pub is_hexadecimal : List ℕ → Bool
+is_hexadecimal (a ∷ b ∷ c ∷ cs) = a == 48 && b == 120 && list_all is_hex_digit (c ∷ cs)
+is_hexadecimal _ = false
+
+-- the value of a hexadecimal digit
+abbrev pub digit_value : ℕ → ℕ
+digit_value c = if is_digit c then c - 48 else (if is_upper c then c - 55 else c - 87)
+
+-- the number that n and then the digits spell in the base
+abbrev pub number_from : ℕ → ℕ → List ℕ → ℕ
+number_from base n [] = n
+number_from base n (c ∷ cs) = number_from base (n * base + digit_value c) cs
+
+-- the digits behind 0x
+abbrev pub behind_prefix : List ℕ → List ℕ
+behind_prefix (a ∷ b ∷ cs) = cs
+behind_prefix _ = []
+
+-- the value that a number spells
+abbrev pub number_value : List ℕ → Option ℕ
+number_value number =
+    if bytes_eq number (codes "0") then Some 0
+    else (if is_decimal number then Some (number_from 10 0 number)
+    else (if is_hexadecimal number then Some (number_from 16 0 (behind_prefix number)) else None))
+
+-- an integer is at most 2 ^ 53 - 1
+abbrev pub int_of : ℕ → Option Kind
+int_of n = if nat_le n 9007199254740991 then Some (Int n) else None
+
+abbrev pub wildcard_kind : List ℕ → Option Kind
+wildcard_kind [] = Some Underscore
+wildcard_kind _ = None
+
+-- the kind of a piece, if it is a token
+abbrev pub kind_of : List ℕ → Option Kind
+kind_of [] = None
+kind_of (c ∷ cs) =
+    if is_letter c then Some (name_kind (c ∷ cs))
+    else (if is_digit c then option_and_then int_of (number_value (c ∷ cs))
+    else (if c == 95 then wildcard_kind cs
+    else (if is_mark c then Some (kind_in marks (c ∷ cs) Backslash)
+    else (if is_operator_char c then Some (kind_in operators (c ∷ cs) Operator) else None))))

@@ -1,0 +1,7 @@
+pub mod Characters
+pub mod Pieces
+pub mod Kinds
+pub mod Gaps
+pub mod Tokens
+pub mod View
+pub mod Lengths

@@ -1,0 +1,37 @@
+-- Pieces: the shapes of what a text is cut into. A piece is a list of characters taken alone.
+use Rattle.std.specs.Prelude.{◌≡◌, ℕ, ◌≤◌, Bool, false, ◌&&◌, List, [], ◌∷◌, ◌++◌, length, IsTrue}
+use Rattle.std.specs.List.{list_all}
+use Rattle.elm_lexer.specs.Characters.{is_letter, is_upper, is_digit, is_name_char, is_operator_char, is_mark}
+
+-- a letter and then name characters
+abbrev pub is_word : List ℕ → Bool
+is_word [] = false
+is_word (c ∷ cs) = is_letter c && list_all is_name_char cs
+
+-- a word that begins with an upper-case letter
+abbrev pub is_upper_word : List ℕ → Bool
+is_upper_word [] = false
+is_upper_word (c ∷ cs) = is_upper c && list_all is_name_char cs
+
+-- a word, or upper-case words that points (46) join, and then a word: Main, worker, Platform.worker
+pub data IsName : List ℕ → Type 0 where
+  word : {w : List ℕ} → IsTrue (is_word w) → IsName w
+  joined : (w : List ℕ) {name : List ℕ} → IsTrue (is_upper_word w) → IsName name → IsName (w ++ 46 ∷ name)
+
+pub data IsPiece : List ℕ → Type 0 where
+  -- a name
+  name : {p : List ℕ} → IsName p → IsPiece p
+  -- a digit and then name characters
+  number : {c : ℕ} {cs : List ℕ} → IsTrue (is_digit c) → IsTrue (list_all is_name_char cs) → IsPiece (c ∷ cs)
+  -- _ (95) and then name characters
+  wildcard : {cs : List ℕ} → IsTrue (list_all is_name_char cs) → IsPiece (95 ∷ cs)
+  -- one mark
+  mark : {c : ℕ} → IsTrue (is_mark c) → IsPiece (c ∷ [])
+  -- operator characters
+  operator : {c : ℕ} {cs : List ℕ} → IsTrue (is_operator_char c) → IsTrue (list_all is_operator_char cs) → IsPiece (c ∷ cs)
+
+-- the text is the piece and then the rest, and no longer front of the text is a piece
+pub record IsCut (text piece rest : List ℕ) : Type 0 where
+  pub whole : text ≡ piece ++ rest
+  pub is_piece : IsPiece piece
+  pub longest : (front others : List ℕ) → text ≡ front ++ others → IsPiece front → length front ≤ length piece

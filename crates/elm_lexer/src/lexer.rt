@@ -1,0 +1,60 @@
+//! The loop over a text.
+
+ghost use Rattle.std.specs.Prelude.{◌≡◌, ℕ, ◌+◌, ◌<◌, ◌≤◌, ◌^◌, List, length, map, IfOk, IfErr, IfSome, MatchOption};
+ghost use Rattle.elm_lexer.specs.declared.error.LexError.TheVariants.{NoTokens};
+ghost use Rattle.elm_lexer.specs.Tokens.{Token as PlainToken, Tokens};
+ghost use Rattle.elm_lexer.specs.View.{token_view, place_view};
+
+use crate::error::LexError;
+use crate::gap::{after_gap, begins_gap};
+use crate::kind::kind_of;
+use crate::piece::piece_length;
+use crate::place::behind;
+use crate::token::Token;
+use elm_base::position::Pos;
+use std::alloc::Global;
+use std::str::from_utf8;
+
+/// The tokens of a text, which is the bytes of a module's file.
+///
+/// `NoTokens` is the answer exactly where the text has no token list.
+pub fn tokens<'a>(alloc: Global, text: &'a [u8]) -> Result<Vec<Token<'a>>, LexError>
+    requires { length text.now ≤ 4194304 }
+    ensures found { IfOk result (λ v. Tokens text.now (map token_view v.items)) }
+    ensures only { IfOk result (λ v. (ts : List PlainToken) → Tokens text.now ts → ts ≡ map token_view v.items) }
+    ensures none { IfErr result (λ e. e ≡ NoTokens → (ts : List PlainToken) → Tokens text.now ts → ⊥) }
+{
+    if from_utf8(text).is_err() {
+        return Err(LexError::NoTokens);
+    }
+    let mut found = Vec::new(alloc);
+    let mut rest = text;
+    let mut place = Pos { row: 1, column: 1 };
+    let mut touched = false;
+    while !rest.is_empty() {
+        if begins_gap(rest) {
+            let Some(after) = after_gap(rest) else {
+                return Err(LexError::NoTokens);
+            };
+            place = behind(place, &rest[..rest.len() - after.len()]);
+            rest = after;
+            touched = true;
+        } else {
+            let (piece, after) = rest.split_at(piece_length(rest));
+            let Some(kind) = kind_of(piece) else {
+                return Err(LexError::NoTokens);
+            };
+            found.push(Token {
+                kind,
+                text: piece,
+                start: place,
+                space_before: touched,
+                space_after: begins_gap(after),
+            })?;
+            place = behind(place, piece);
+            rest = after;
+            touched = false;
+        }
+    }
+    Ok(found)
+}

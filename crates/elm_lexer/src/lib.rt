@@ -1,0 +1,17 @@
+//! Cuts the text of an Elm module into its tokens.
+#![tactic(auto)]
+
+pub mod characters;
+pub mod error;
+pub mod gap;
+pub mod kind;
+pub mod lexer;
+pub mod piece;
+pub mod place;
+#[cfg(test)]
+mod tests;
+pub mod token;
+
+pub use error::LexError;
+pub use lexer::tokens;
+pub use token::{Kind, Token};

@@ -1,0 +1,60 @@
+ghost use Rattle.std.specs.Prelude.{◌≤◌, length};
+
+use crate::{Kind, LexError, Token, tokens};
+use elm_base::position::Pos;
+use std::process::Abort;
+use std::test::Fail;
+
+fn is_at(token: &Token, kind: Kind, row: u32, column: u32, before: bool, after: bool) -> bool {
+    token.kind == kind
+        && token.start == Pos { row, column }
+        && token.space_before == before
+        && token.space_after == after
+}
+
+#[test]
+fn layouts(rt: HostRuntime) -> Result<(), Fail> {
+    let text = "if x -- \t\u{e9}\n  {- \u{e9}{- -}\u{e9}\t-}a=Platform.worker\r\n-- end".as_bytes();
+    let found = tokens(rt.alloc(), text)?;
+    assert_eq!(rt; found.len(), 5);
+    assert!(rt; is_at(&found[0], Kind::If, 1, 1, false, true));
+    assert!(rt; is_at(&found[1], Kind::LowerName, 1, 4, true, true));
+    assert!(rt; is_at(&found[2], Kind::LowerName, 2, 16, true, false));
+    assert!(rt; is_at(&found[3], Kind::Equals, 2, 17, false, false));
+    assert!(rt; is_at(&found[4], Kind::QualifiedLower, 2, 18, false, true));
+    Ok(())
+}
+
+#[test]
+fn numbers(rt: HostRuntime) -> Result<(), Fail> {
+    let found = tokens(rt.alloc(), b"0x1F 9007199254740991 1.5 0")?;
+    assert_eq!(rt; found.len(), 6);
+    assert!(rt; found[0].kind == Kind::Int(31));
+    assert!(rt; found[1].kind == Kind::Int(9007199254740991));
+    assert!(rt; found[2].kind == Kind::Int(1));
+    assert!(rt; found[3].kind == Kind::Dot);
+    assert!(rt; found[4].kind == Kind::Int(5));
+    assert!(rt; found[5].kind == Kind::Int(0));
+    Ok(())
+}
+
+fn is_refused(rt: &HostRuntime, text: &[u8]) -> bool
+    requires { length text.now ≤ 4194304 }
+{
+    match tokens(rt.alloc(), text) {
+        Err(LexError::NoTokens) => true,
+        _ => false,
+    }
+}
+
+#[test]
+fn refused(rt: HostRuntime) {
+    assert!(&rt; is_refused(&rt, b"007"));
+    assert!(&rt; is_refused(&rt, b"9007199254740992"));
+    assert!(&rt; is_refused(&rt, b"0x"));
+    assert!(&rt; is_refused(&rt, b"a\tb"));
+    assert!(&rt; is_refused(&rt, b"_x"));
+    assert!(&rt; is_refused(&rt, b"{- {- -}"));
+    assert!(&rt; is_refused(&rt, b"-- \xff"));
+    assert!(&rt; !is_refused(&rt, b"_ {--} \\"));
+}

@@ -1,0 +1,112 @@
+//! The program's commands over files and sinks in memory.
+
+mod commands;
+mod expected;
+mod failures;
+mod texts;
+
+use crate::program::top;
+use build_workers::OpenGate;
+use elm_files::{MemFiles, MemSink};
+use std::alloc::{AllocError, Global};
+use std::sync::Wait;
+use std::thread::Threads;
+
+/// The module of the example, up to the number that it sends.
+const MODULE_FRONT: &str = r#"port module Main exposing (main)
+
+port out : Int -> Cmd msg
+
+main : Program () () ()
+main =
+    Platform.worker
+        { init = \_ -> ( (), out "#;
+
+/// The module of the example behind the number.
+const MODULE_BACK: &str = r#" )
+        , update = \_ m -> ( m, Cmd.none )
+        , subscriptions = \_ -> Sub.none
+        }
+"#;
+
+/// The words that build the example.
+const MAKE: [&str; 4] = ["elmc", "make", "src/Main.elm", "--output=out.js"];
+
+/// Which calls fail, by their numbers.
+#[derive(Clone, Copy)]
+struct Failing {
+    files: Option<u64>,
+    out: Option<u64>,
+    err: Option<u64>,
+}
+
+/// No call fails.
+const NONE_FAILS: Failing = Failing {
+    files: None,
+    out: None,
+    err: None,
+};
+
+/// A run that is over: its status, and what it left.
+#[derive(Drop)]
+struct Ran {
+    status: u8,
+    files: MemFiles,
+    out: MemSink,
+    err: MemSink,
+}
+
+/// Runs the words over an old output and one module.
+fn run<R: Threads + Wait + Sync>(
+    rt: &R,
+    alloc: Global,
+    words: &[&str],
+    module: &[u8],
+    failing: Failing,
+) -> Result<Ran, AllocError> {
+    let mut files = MemFiles::new(alloc, numbers(alloc, failing.files)?);
+    files.insert("out.js", b"old")?;
+    files.insert("src/Main.elm", module)?;
+    let mut out = MemSink::new(alloc, numbers(alloc, failing.out)?);
+    let mut err = MemSink::new(alloc, numbers(alloc, failing.err)?);
+    let words = owned(alloc, words)?;
+    let status = top(rt, alloc, &words, &mut files, &mut out, &mut err, &OpenGate);
+    Ok(Ran {
+        status,
+        files,
+        out,
+        err,
+    })
+}
+
+fn numbers(alloc: Global, number: Option<u64>) -> Result<Vec<u64>, AllocError> {
+    let mut numbers = Vec::new(alloc);
+    if let Some(number) = number {
+        numbers.push(number)?;
+    }
+    Ok(numbers)
+}
+
+fn owned(alloc: Global, words: &[&str]) -> Result<Vec<String>, AllocError> {
+    let mut owned = Vec::new(alloc);
+    for word in words {
+        owned.push(String::from_str(alloc, *word)?)?;
+    }
+    Ok(owned)
+}
+
+/// The text of the example's module with another argument.
+fn module(alloc: Global, argument: &str) -> Result<String, AllocError> {
+    let mut text = String::from_str(alloc, MODULE_FRONT)?;
+    text.push_str(argument)?;
+    text.push_str(MODULE_BACK)?;
+    Ok(text)
+}
+
+/// The output for the example's module with another argument, of which this is the JavaScript.
+fn output(alloc: Global, argument: &str) -> Result<Vec<u8>, AllocError> {
+    let mut text = Vec::from_slice(alloc, expected::FRONT)?;
+    text.extend_from_slice(argument.as_bytes())?;
+    text.extend_from_slice(expected::BACK)?;
+    Ok(text)
+}
