@@ -1,5 +1,5 @@
 -- The loop over a text: what was found, and then what the rest has, is all that the text has.
-use Rattle.std.proofs.Common.{◌≡◌, ℕ, suc, ◌+◌, ◌-◌, ◌<◌, ◌≤◌, List, [], ◌∷◌, ◌++◌, length, take, drop, map, Bool, true, false, Option, Some, None, sym, refl, ap, subst, ◌∙◌, arith, append_assoc, append-nil, length-append}
+use Rattle.std.proofs.Common.{◌≡◌, ℕ, ◌-◌, ◌<◌, List, [], ◌∷◌, ◌++◌, length, take, drop, map, Bool, true, false, Some, None, sym, refl, ap, subst, ◌∙◌, arith, append_assoc, append-nil, length-append}
 use Rattle.std.proofs.Common.{Result, Ok, Err, MatchResult, ◌==◌}
 use Rattle.std.specs.Result.{is_err}
 use Rattle.std.proofs.lemmas.Bool.Decides.{nat_tests}
@@ -44,7 +44,6 @@ gap_fault text found p touched t h b never us k = let w = h.only us k in gap_nev
 pub token_turn : (text : List ℕ) (found more : List Token) (p q : Place) (touched : Bool) (t piece rest : List ℕ) (kind : Kind) → Cuts text found p touched t → begins_gap t ≡ false → 0 < length t → piece ≡ take (piece_length t) t → rest ≡ drop (piece_length t) t → kind_of piece ≡ Some kind → more ≡ found ++ token_at p touched piece kind rest ∷ [] → q ≡ behind p piece → Cuts text more q false rest
 token_turn text found more p q touched t piece rest kind h b some i j k m e = subst (λ x. Cuts text more x false rest) (sym e) (subst (λ x. Cuts text x (behind p piece) false rest) (sym m) (record { whole = whole; only = only }))
   where
-
     whole : (ts : List Token) → AreTokens (behind p piece) false rest ts → AreTokens first_place false text (found ++ token_at p touched piece kind rest ∷ [] ++ ts)
     whole ts a =
         subst (λ x. AreTokens first_place false text x) (sym (append_assoc found (token_at p touched piece kind rest ∷ []) ts))

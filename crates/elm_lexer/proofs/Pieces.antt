@@ -1,14 +1,13 @@
 -- The length that the program finds is that of the longest piece.
-use Rattle.std.proofs.Common.{◌≡◌, ℕ, suc, ◌+◌, ◌-◌, ◌<◌, ◌≤◌, List, [], ◌∷◌, ◌++◌, length, take, drop, Bool, true, false, not, ◌&&◌, ◌||◌, ◌==◌, cond, sym, refl, ap, subst, ◌∙◌, arith}
+use Rattle.std.proofs.Common.{◌≡◌, ℕ, ◌+◌, ◌<◌, ◌≤◌, List, [], ◌∷◌, ◌++◌, length, take, drop, Bool, true, false, not, ◌&&◌, ◌||◌, ◌==◌, sym, refl, ap, subst, ◌∙◌, arith}
 use Rattle.std.proofs.lemmas.Bool.Decides.{nat_tests}
 use Rattle.std.specs.Prelude.{codes}
 use Rattle.std.specs.List.{list_all}
 use Rattle.elm_lexer.specs.Characters.{is_letter, is_upper, is_digit, is_name_char, is_operator_char, is_mark}
-use Rattle.elm_lexer.specs.Kinds.{begins_upper}
-use Rattle.elm_lexer.specs.Lengths.{run, begins_letter, name_run, piece_length}
-use Rattle.elm_lexer.specs.Pieces.{IsName, IsPiece, name, number, wildcard, mark, operator, IsCut}
-use Rattle.elm_lexer.proofs.Basics.{and_true, both_true, true_false, or_left, not_true, eq_true, among_all, front_of}
-use Rattle.elm_lexer.proofs.Runs.{Front, run_front, run_longest, goes, name_run-letter, name_front, name_longest, names, name_goes, letters}
+use Rattle.elm_lexer.specs.Lengths.{run, name_run, piece_length}
+use Rattle.elm_lexer.specs.Pieces.{IsPiece, name, number, wildcard, mark, operator, IsCut}
+use Rattle.elm_lexer.proofs.Basics.{and_true, both_true, or_left, not_true, eq_true, among_all, front_of}
+use Rattle.elm_lexer.proofs.Runs.{Front, run_front, run_longest, goes, name_front, name_longest, names, name_goes, letters}
 
 -- ---- pieces of different shapes begin with different characters
 
@@ -99,7 +98,7 @@ piece_longest _ r (number {c} {cs} d h) =
     omega (arith, l, n)
 piece_longest _ r (wildcard {cs} h) = let l = run_longest is_name_char cs r h in omega arith
 piece_longest _ r (mark {c} m) = let w = mark_other c m in rw (w.0, w.1, m) (omega arith)
-piece_longest _ r (operator {c} {cs} o h) = let w = operator_other c o in let l = run_longest is_operator_char (c ∷ cs) r (both_true _ _ o h) in 
+piece_longest _ r (operator {c} {cs} o h) = let w = operator_other c o in let l = run_longest is_operator_char (c ∷ cs) r (both_true _ _ o h) in
     let n : piece_length (c ∷ (cs ++ r)) ≡ run is_operator_char (c ∷ (cs ++ r)) = rw (w.0, w.1, w.2) refl in
     omega (arith, l, n)
 
@@ -116,7 +115,7 @@ cut_is t some = cut (piece_front t some)
     cut w =
         let s = front_of t w.front w.rest (piece_length t) w.whole w.long in
         let longest : (front others : List ℕ) → t ≡ front ++ others → IsPiece front → length front ≤ length w.front =
-          λ front others e h. let l = piece_longest front others h in omega (arith, w.long, ap piece_length e) in
+        λ front others e h. let l = piece_longest front others h in omega (arith, w.long, ap piece_length e) in
         let found : IsCut t w.front w.rest = record { whole = w.whole; is_piece = w.has; longest = longest } in
         subst (λ x. IsCut t (take (piece_length t) t) x) (s.1) (subst (λ x. IsCut t x w.rest) (s.0) found)
 

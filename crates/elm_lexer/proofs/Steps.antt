@@ -1,5 +1,5 @@
 -- What one turn of the program says of the token list.
-use Rattle.std.proofs.Common.{◌≡◌, ℕ, suc, ◌+◌, ◌-◌, ◌<◌, ◌≤◌, zero, List, [], ◌∷◌, ◌++◌, length, take, drop, Bool, true, false, Option, Some, None, sym, refl, ap, subst, ◌∙◌, arith}
+use Rattle.std.proofs.Common.{◌≡◌, ℕ, suc, ◌<◌, zero, List, [], ◌∷◌, ◌++◌, length, take, drop, Bool, true, false, Some, None, sym, refl, ap, subst, ◌∙◌, arith}
 use Rattle.std.proofs.lemmas.List.{append_cancel_right, length-append}
 use Rattle.elm_lexer.specs.declared.token.Kind.{Kind}
 use Rattle.elm_lexer.specs.Gaps.{begins_gap, IsGap}
@@ -7,8 +7,8 @@ use Rattle.elm_lexer.specs.Pieces.{IsCut}
 use Rattle.elm_lexer.specs.Kinds.{kind_of}
 use Rattle.elm_lexer.specs.Lengths.{piece_length}
 use Rattle.elm_lexer.specs.Tokens.{Place, Token, behind, token_at, AreTokens, no_more, gap, token}
-use Rattle.elm_lexer.proofs.Basics.{true_false, front_of}
-use Rattle.elm_lexer.proofs.Blocks.{gap_same, gap_end, gap_begins}
+use Rattle.elm_lexer.proofs.Basics.{true_false}
+use Rattle.elm_lexer.proofs.Blocks.{gap_same, gap_begins}
 use Rattle.elm_lexer.proofs.Pieces.{cut_is, cut_at, piece_some}
 
 -- the rule by which a text has these tokens

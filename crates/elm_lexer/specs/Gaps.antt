@@ -1,5 +1,5 @@
 -- What stands between tokens: white space and comments. (Elm syntax reference, comments.)
-use Rattle.std.specs.Prelude.{◌≡◌, ℕ, suc, Bool, true, false, ◌&&◌, ◌||◌, if◌then◌else◌, ◌==◌, List, [], ◌∷◌, IsTrue, IsFalse}
+use Rattle.std.specs.Prelude.{ℕ, suc, Bool, false, ◌&&◌, ◌||◌, if◌then◌else◌, ◌==◌, List, [], ◌∷◌, IsTrue, IsFalse}
 use Rattle.elm_lexer.specs.Characters.{is_white}
 
 -- the text begins with these two characters

@@ -1,5 +1,5 @@
 -- What a piece is, if it is a token.
-use Rattle.std.specs.Prelude.{ℕ, ◌+◌, ◌-◌, ◌*◌, Bool, true, false, ◌&&◌, if◌then◌else◌, ◌==◌, nat_le, List, [], ◌∷◌, Option, Some, None, option_and_then, codes}
+use Rattle.std.specs.Prelude.{ℕ, ◌+◌, ◌-◌, ◌*◌, Bool, false, ◌&&◌, if◌then◌else◌, ◌==◌, nat_le, List, [], ◌∷◌, Option, Some, None, option_and_then, codes}
 use Rattle.std.specs.List.{list_all, list_any}
 use Rattle.std.specs.Str.{bytes_eq}
 use Rattle.elm_lexer.specs.declared.token.Kind.{Kind}
@@ -37,8 +37,8 @@ last_word word (c ∷ cs) = if c == 46 then last_word cs cs else last_word word 
 abbrev pub name_kind : List ℕ → Kind
 name_kind name =
     if list_any (λ c. c == 46) name
-      then (if begins_upper (last_word name name) then QualifiedUpper else QualifiedLower)
-      else kind_in reserved_words name (if begins_upper name then UpperName else LowerName)
+    then (if begins_upper (last_word name name) then QualifiedUpper else QualifiedLower)
+    else kind_in reserved_words name (if begins_upper name then UpperName else LowerName)
 
 -- a digit from 1 to 9, and digits
 abbrev pub is_decimal : List ℕ → Bool

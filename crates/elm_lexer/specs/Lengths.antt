@@ -1,5 +1,5 @@
 -- How long the first piece of a text is, as the program finds it.
-use Rattle.std.specs.Prelude.{ℕ, ◌+◌, Bool, true, false, ◌&&◌, ◌||◌, if◌then◌else◌, ◌==◌, List, [], ◌∷◌}
+use Rattle.std.specs.Prelude.{ℕ, ◌+◌, Bool, false, ◌&&◌, ◌||◌, if◌then◌else◌, ◌==◌, List, [], ◌∷◌}
 use Rattle.elm_lexer.specs.Characters.{is_letter, is_upper, is_digit, is_name_char, is_operator_char, is_mark}
 use Rattle.elm_lexer.specs.Kinds.{begins_upper}
 

@@ -1,6 +1,6 @@
 -- Tokens: what a text is cut into. (Elm syntax reference: comments, literals, reserved words; the longest match.)
 -- A text is its bytes, which are UTF-8. Rows and columns count from 1, columns in code points.
-use Rattle.std.specs.Prelude.{◌≡◌, ℕ, ◌+◌, Bool, true, false, ◌&&◌, if◌then◌else◌, ◌==◌, nat_le, nat_lt, List, [], ◌∷◌, ◌++◌, Option, Some, IsTrue, IsFalse}
+use Rattle.std.specs.Prelude.{◌≡◌, ℕ, ◌+◌, Bool, true, false, ◌&&◌, if◌then◌else◌, ◌==◌, nat_le, nat_lt, List, [], ◌∷◌, ◌++◌, Some, IsFalse}
 use Rattle.std.specs.Str.{IsUtf8}
 use Rattle.elm_lexer.specs.declared.token.Kind.{Kind}
 use Rattle.elm_lexer.specs.Pieces.{IsCut}

@@ -1,5 +1,4 @@
 -- What a token of the program is, as a token of the definition.
-use Rattle.std.specs.Prelude.{ℕ}
 use Rattle.elm_base.specs.declared.position.Pos.{Pos}
 use Rattle.elm_lexer.specs.declared.token.Token as program
 use Rattle.elm_lexer.specs.Tokens.{Place, Token}

@@ -7,9 +7,7 @@ ghost use Rattle.elm_lexer.specs.Characters.{is_digit, is_hex_digit};
 ghost use Rattle.elm_lexer.specs.Kinds.{kind_in, reserved_words, marks, operators, last_word, name_kind, is_decimal, is_hexadecimal, digit_value, number_from, number_value, int_of, kind_of};
 ghost use Rattle.elm_lexer.specs.declared.token.Kind.TheVariants.{Backslash, Operator};
 
-use crate::characters::{
-    is_digit, is_hex_digit, is_letter, is_mark, is_operator_char, is_upper,
-};
+use crate::characters::{is_digit, is_hex_digit, is_letter, is_mark, is_operator_char, is_upper};
 use crate::piece::begins_upper;
 use crate::token::Kind;
 

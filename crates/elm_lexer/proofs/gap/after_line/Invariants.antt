@@ -1,4 +1,4 @@
-use Rattle.std.proofs.Common.{◌≡◌, ℕ, ◌+◌, ◌-◌, ◌*◌, ◌<◌, ◌≤◌, List, length, true}
+use Rattle.std.proofs.Common.{◌≡◌, ◌≤◌, length}
 use Rattle.elm_lexer.specs.Gaps.{after_line}
 use Rattle.elm_lexer.proofs.gap.after_line.Given as goal
 

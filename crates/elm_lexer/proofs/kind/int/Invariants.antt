@@ -1,4 +1,4 @@
-use Rattle.std.proofs.Common.{◌≡◌, ℕ, ◌+◌, ◌-◌, ◌*◌, ◌<◌, ◌≤◌, List, length, true}
+use Rattle.std.proofs.Common.{◌≡◌, ◌≤◌, length, true}
 use Rattle.std.specs.List.{list_all}
 use Rattle.elm_lexer.specs.Characters.{is_hex_digit}
 use Rattle.elm_lexer.specs.Kinds.{number_from}

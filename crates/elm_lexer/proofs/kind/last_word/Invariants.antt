@@ -1,4 +1,4 @@
-use Rattle.std.proofs.Common.{◌≡◌, ℕ, ◌+◌, ◌-◌, ◌*◌, ◌<◌, ◌≤◌, List, length, true}
+use Rattle.std.proofs.Common.{◌≡◌, length}
 use Rattle.elm_lexer.specs.Kinds.{last_word}
 use Rattle.elm_lexer.proofs.kind.last_word.Given as goal
 

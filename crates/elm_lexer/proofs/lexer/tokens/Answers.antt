@@ -1,4 +1,4 @@
-use Rattle.std.proofs.Common.{◌≡◌, ◌∷◌, [], ◌++◌, length, take, drop, map, Bool, refl, sym, ap, ◌∙◌, arith}
+use Rattle.std.proofs.Common.{◌∷◌, [], ◌++◌, take, drop, map, Bool, refl, sym, ap, ◌∙◌, arith}
 use Rattle.std.proofs.lemmas.Grind.{common_steps}
 use Rattle.elm_lexer.specs.View.{token_view, place_view}
 use Rattle.elm_lexer.proofs.Loop.{gap_turn, token_turn, token_fault, end_whole, end_same, some_of, none_of, map_push, ok_part}
@@ -21,11 +21,11 @@ loop-rest-preserved c =
     let piece = c.split_at.ensures.front ∙ ap (λ n. take n c.loop-rest.rest.now) c.piece_length.ensures.value in
     let after = c.split_at.ensures.back ∙ ap (λ n. drop n c.loop-rest.rest.now) c.piece_length.ensures.value in
     let items =
-      ap (map token_view) c.in_ok-push.ensures.items ∙ map_push token_view c.loop-rest.found.items _
-      ∙ ap
-      (λ (b : Bool). map token_view c.loop-rest.found.items
-      ++ record { kind = c.in-Some-kind_of.kind; text = c.split_at.result.0.now; start = place_view c.loop-rest.place; space_before = c.loop-rest.touched; space_after = b } ∷ [])
-      c.begins_gap-else-begins_gap.ensures in
+    ap (map token_view) c.in_ok-push.ensures.items ∙ map_push token_view c.loop-rest.found.items _
+    ∙ ap
+    (λ (b : Bool). map token_view c.loop-rest.found.items
+    ++ record { kind = c.in-Some-kind_of.kind; text = c.split_at.result.0.now; start = place_view c.loop-rest.place; space_before = c.loop-rest.touched; space_after = b } ∷ [])
+    c.begins_gap-else-begins_gap.ensures in
     record {
       row = grind (arith, common_steps);
       column = grind (arith, common_steps);

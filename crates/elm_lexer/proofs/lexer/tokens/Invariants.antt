@@ -1,4 +1,4 @@
-use Rattle.std.proofs.Common.{◌≡◌, ℕ, ◌+◌, ◌≤◌, List, ◌++◌, length, map, true, false}
+use Rattle.std.proofs.Common.{◌+◌, ◌≤◌, length, map}
 use Rattle.elm_lexer.proofs.Loop.{Cuts}
 use Rattle.elm_lexer.specs.View.{token_view, place_view}
 use Rattle.elm_lexer.proofs.lexer.tokens.Given as goal

@@ -1,4 +1,4 @@
-use Rattle.std.proofs.Common.{◌≡◌, ℕ, ◌+◌, ◌-◌, ◌*◌, ◌<◌, ◌≤◌, List, length, true}
+use Rattle.std.proofs.Common.{◌≡◌, ◌+◌, length}
 use Rattle.elm_lexer.specs.Kinds.{begins_upper}
 use Rattle.elm_lexer.specs.Lengths.{name_run}
 use Rattle.elm_lexer.proofs.piece.name_run.Given as goal

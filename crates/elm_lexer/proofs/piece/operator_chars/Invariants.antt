@@ -1,4 +1,4 @@
-use Rattle.std.proofs.Common.{◌≡◌, ℕ, ◌+◌, ◌-◌, ◌*◌, ◌<◌, ◌≤◌, List, length, true}
+use Rattle.std.proofs.Common.{◌≡◌, ◌+◌, length}
 use Rattle.elm_lexer.specs.Characters.{is_operator_char}
 use Rattle.elm_lexer.specs.Lengths.{run}
 use Rattle.elm_lexer.proofs.piece.operator_chars.Given as goal

@@ -1,4 +1,4 @@
-use Rattle.std.proofs.Common.{◌≡◌, ℕ, ◌+◌, ◌-◌, ◌*◌, ◌<◌, ◌≤◌, List, length, true}
+use Rattle.std.proofs.Common.{◌≡◌, ◌+◌, ◌≤◌, length}
 use Rattle.elm_lexer.specs.Tokens.{behind}
 use Rattle.elm_lexer.specs.View.{place_view}
 use Rattle.elm_lexer.proofs.place.behind.Given as goal
