@@ -22,6 +22,7 @@ is_upper c = is_between 65 90 c
 abbrev pub is_lower : ℕ → Bool
 is_lower c = is_between 97 122 c
 
+-- A to Z and a to z
 abbrev pub is_letter : ℕ → Bool
 is_letter c = is_upper c || is_lower c
 

@@ -19,6 +19,7 @@ begins_block text = begins_with 123 45 text
 abbrev pub ends_block : List ℕ → Bool
 ends_block text = begins_with 45 125 text
 
+-- it begins with a comment
 abbrev pub begins_comment : List ℕ → Bool
 begins_comment text = begins_line text || begins_block text
 

@@ -11,16 +11,19 @@ abbrev pub kind_in : List (List ℕ × Kind) → List ℕ → Kind → Kind
 kind_in [] piece other = other
 kind_in (row ∷ rows) piece other = if bytes_eq piece row.0 then row.1 else kind_in rows piece other
 
+-- the words that are no names
 abbrev pub reserved_words : List (List ℕ × Kind)
 reserved_words =
     (codes "if", If) ∷ (codes "then", Then) ∷ (codes "else", Else) ∷ (codes "case", Case) ∷ (codes "of", Of) ∷ (codes "let", Let) ∷ (codes "in", In)
     ∷ (codes "type", «Type») ∷ (codes "module", Module) ∷ (codes "where", Where) ∷ (codes "import", Import) ∷ (codes "exposing", Exposing) ∷ (codes "as", As) ∷ (codes "port", Port) ∷ []
 
+-- any other mark is the backslash
 abbrev pub marks : List (List ℕ × Kind)
 marks =
     (codes "(", OpenParen) ∷ (codes ")", CloseParen) ∷ (codes "{", OpenBrace) ∷ (codes "}", CloseBrace)
     ∷ (codes "[", OpenBracket) ∷ (codes "]", CloseBracket) ∷ (codes ",", Comma) ∷ []
 
+-- the operators with a kind of their own
 abbrev pub operators : List (List ℕ × Kind)
 operators = (codes "=", Equals) ∷ (codes "->", Arrow) ∷ (codes ":", Colon) ∷ (codes "|", Bar) ∷ (codes "..", Dots) ∷ (codes ".", Dot) ∷ []
 
@@ -34,6 +37,7 @@ abbrev pub last_word : List ℕ → List ℕ → List ℕ
 last_word word [] = word
 last_word word (c ∷ cs) = if c == 46 then last_word cs cs else last_word word cs
 
+-- a name with points goes by the case of its last word; a word alone may be reserved
 abbrev pub name_kind : List ℕ → Kind
 name_kind name =
     if list_any (λ c. c == 46) name
@@ -75,6 +79,7 @@ number_value number =
 abbrev pub int_of : ℕ → Option Kind
 int_of n = if nat_le n 9007199254740991 then Some (Int n) else None
 
+-- what follows a wildcard's _: nothing, or it is no token
 abbrev pub wildcard_kind : List ℕ → Option Kind
 wildcard_kind [] = Some Underscore
 wildcard_kind _ = None

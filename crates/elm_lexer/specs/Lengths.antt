@@ -1,4 +1,4 @@
--- How long the first piece of a text is, as the program finds it.
+-- How long the first piece of a text is, as the program finds it. No clause of a public function cites this: that it is the longest piece is proved.
 use Rattle.std.specs.Prelude.{ℕ, ◌+◌, Bool, false, ◌&&◌, ◌||◌, if◌then◌else◌, ◌==◌, List, [], ◌∷◌}
 use Rattle.elm_lexer.specs.Characters.{is_letter, is_upper, is_digit, is_name_char, is_operator_char, is_mark}
 use Rattle.elm_lexer.specs.Kinds.{begins_upper}
@@ -8,6 +8,7 @@ abbrev pub run : (ℕ → Bool) → List ℕ → ℕ
 run test [] = 0
 run test (c ∷ cs) = if test c then run test cs + 1 else 0
 
+-- the text begins with a letter
 abbrev pub begins_letter : List ℕ → Bool
 begins_letter [] = false
 begins_letter (c ∷ cs) = is_letter c

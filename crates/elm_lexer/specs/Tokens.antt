@@ -40,8 +40,11 @@ token_at p touched piece kind rest = record { kind = kind; text = piece; start =
 
 -- AreTokens p touched text ts: from place p on the text is cut into the tokens ts; touched: white space or a comment stands right before it
 pub data AreTokens : Place → Bool → List ℕ → List Token → Type 0 where
+  -- the end of the text has no tokens
   no_more : {p : Place} {touched : Bool} → AreTokens p touched [] []
+  -- a stretch of white space or a comment, and the tokens of the rest, which it touches
   gap : {p : Place} {touched : Bool} {rest : List ℕ} {ts : List Token} (body : List ℕ) → IsGap (body ++ rest) rest → AreTokens (behind p body) true rest ts → AreTokens p touched (body ++ rest) ts
+  -- no gap, but a longest piece that is a token, and the tokens of the rest, which it does not touch
   token : {p : Place} {touched : Bool} {text piece rest : List ℕ} {kind : Kind} {ts : List Token} → IsFalse (begins_gap text) → IsCut text piece rest → kind_of piece ≡ Some kind → AreTokens (behind p piece) false rest ts → AreTokens p touched text (token_at p touched piece kind rest ∷ ts)
 
 -- the tokens of a whole text

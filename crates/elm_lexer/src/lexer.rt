@@ -15,9 +15,11 @@ use elm_base::position::Pos;
 use std::alloc::Global;
 use std::str::from_utf8;
 
-/// The tokens of a text, which is the bytes of a module's file.
+/// The tokens of a text, in order. (Elm syntax reference: comments, literals, reserved words.)
 ///
-/// `NoTokens` is the answer exactly where the text has no token list.
+/// `text` is the bytes of a module's file, at most 4 MiB of them. `alloc` is where the list is kept; the tokens
+/// themselves are ranges of the text. `NoTokens` is the answer exactly where the text has no token list, and
+/// `NoMemory` where memory ran out.
 pub fn tokens<'a>(alloc: Global, text: &'a [u8]) -> Result<Vec<Token<'a>>, LexError>
     requires { length text.now ≤ 4194304 }
     ensures found { IfOk result (λ v. Tokens text.now (map token_view v.items)) }
