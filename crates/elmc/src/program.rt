@@ -2,6 +2,7 @@
 
 ghost use Rattle.std.specs.Prelude.{◌≡◌, ◌≢◌, ◌<◌, ◌≤◌, ◌⊎◌, ◌++◌, IfOk, codes, map, string_bytes};
 ghost use Rattle.elm_files.specs.Answers.{NoneFull};
+ghost use Rattle.elm_files.specs.Texts.{longer};
 ghost use Rattle.elmc.specs.Causes.{IsEither, SomeCountRose};
 ghost use Rattle.elmc.specs.Command.{NoMake};
 
@@ -44,6 +45,10 @@ pub fn top<R: Threads + Wait + Sync, F: Files, O: Sink, E: Sink, G: Gate + Sync>
     ensures words { result ≡ 2 → NoMake (map string_bytes words.now) }
     ensures no_words { NoMake (map string_bytes words.now) → result ≢ 2 → IsEither result 3 4 }
 
+    // It puts the usage on `err`, and does nothing else.
+    ensures usage { result ≡ 2 → E.text err.new ≡ longer (E.text err.old) USAGE.now }
+    ensures untouched { result ≡ 2 → (F.tree files.new ≡ F.tree files.old) × (O.text out.new ≡ O.text out.old) }
+
     // Status 3 comes only where a file or a sink failed in this call.
     ensures failed { result ≡ 3 → SomeCountRose (F.faults files.old) (F.faults files.new) (O.faults out.old) (O.faults out.new) (E.faults err.old) (E.faults err.new) }
     ensures known { result ≤ 4 }
@@ -65,6 +70,8 @@ fn report<O: Sink, E: Sink>(out: &mut O, err: &mut E, built: &Built) -> u8
     ensures failed { result ≡ 3 → (O.faults out.old < O.faults out.new) ⊎ (E.faults err.old < E.faults err.new) }
     ensures known { result ≤ 4 }
     ensures not_words { result ≢ 2 }
+    ensures done { result ≡ 0 → O.text out.new ≡ longer (O.text out.old) built.now.lines.items }
+    ensures refused { result ≡ 1 → E.text err.new ≡ longer (E.text err.old) built.now.lines.items }
 {
     match &built.outcome {
         Outcome::Text(_) => printed(out, err, &built.lines),
@@ -76,8 +83,8 @@ fn report<O: Sink, E: Sink>(out: &mut O, err: &mut E, built: &Built) -> u8
 fn printed<O: Sink, E: Sink>(out: &mut O, err: &mut E, line: &[u8]) -> u8
     requires out { O.faults out.old < 18446744073709551615 }
     ensures failed { result ≡ 3 → O.faults out.old < O.faults out.new }
-    ensures known { result ≤ 4 }
-    ensures not_words { result ≢ 2 }
+    ensures done { result ≡ 0 → O.text out.new ≡ longer (O.text out.old) line.now }
+    ensures other { result ≢ 0 → IsEither result 3 4 }
 {
     match out.put(line) {
         Ok(()) => 0,
@@ -94,6 +101,7 @@ fn said<E: Sink>(err: &mut E, lines: &[u8], status: u8) -> u8
     ensures status { result ≢ status → IsEither result 3 4 }
     ensures known { result ≤ 4 }
     ensures given { result ≡ 2 → status ≡ 2 }
+    ensures text { result ≡ status → E.text err.new ≡ longer (E.text err.old) lines.now }
 {
     match err.put(lines) {
         Ok(()) => status,
