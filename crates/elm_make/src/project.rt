@@ -1,8 +1,8 @@
 //! One build of a project.
 
-ghost use Rattle.std.specs.Prelude.{◌≤◌, IfErr, length};
+ghost use Rattle.std.specs.Prelude.{◌≤◌, IfErr, IfOk, length};
 ghost use Rattle.elm_files.specs.Answers.{NoneFull};
-ghost use Rattle.elm_make.specs.End.{HasCause, IsEndAt};
+ghost use Rattle.elm_make.specs.End.{HasCause, HasFaults, IsEndAt, IsStopped, Leaves, LeavesSome};
 
 use crate::compile::{MAX_TEXT, compile};
 use crate::lines::{compiled, refusal};
@@ -83,7 +83,8 @@ pub fn build<R: Threads + Wait + Sync, F: Files, G: Gate + Sync>(
     gate: &G,
 ) -> Result<Built, BuildEnd>
     requires { NoneFull (F.faults files.old) }
-    ensures { IfErr result (λ end. HasCause end (F.faults files.old) (F.faults files.new)) }
+    ensures cause { IfErr result (λ end. HasCause end (F.faults files.old) (F.faults files.new)) }
+    ensures leaves { IfOk result (λ built. LeavesSome built.outcome (F.tree files.old) (F.tree files.new)) }
 {
     let file = normal(alloc, output)?;
     if is_absolute(output) {
@@ -118,7 +119,8 @@ fn build_text<F: Files, G: Gate>(
 ) -> Result<Built, BuildEnd>
     requires short { length text.now ≤ 4194304 }
     requires none_full { NoneFull (F.faults files.old) }
-    ensures { IfErr result (λ end. HasCause end (F.faults files.old) (F.faults files.new)) }
+    ensures cause { IfErr result (λ end. HasCause end (F.faults files.old) (F.faults files.new)) }
+    ensures leaves { IfOk result (λ built. Leaves file.now built.outcome (F.tree files.old) (F.tree files.new)) }
 {
     gate.before(0, 0);
     let program = compile(alloc, text)?;
@@ -152,7 +154,9 @@ fn failed(alloc: Global, error: FileError, path: &str) -> BuildEnd
 }
 
 /// A build that stopped for a fault of the file at `path`.
-fn stopped(alloc: Global, code: Code, path: &str) -> Result<Built, AllocError> {
+fn stopped(alloc: Global, code: Code, path: &str) -> Result<Built, AllocError>
+    ensures { IfOk result (λ built. IsStopped built.outcome) }
+{
     let (fault, lines) = refusal(alloc, code, path)?;
     let mut faults = Vec::new(alloc);
     faults.push(fault)?;
@@ -165,7 +169,9 @@ fn stopped(alloc: Global, code: Code, path: &str) -> Result<Built, AllocError> {
 }
 
 /// A build of a project whose one module, at `path`, is not accepted.
-fn refused(alloc: Global, path: &str) -> Result<Built, AllocError> {
+fn refused(alloc: Global, path: &str) -> Result<Built, AllocError>
+    ensures { IfOk result (λ built. HasFaults built.outcome) }
+{
     let (fault, lines) = refusal(alloc, Code::NotYet, path)?;
     let mut faults = Vec::new(alloc);
     faults.push(fault)?;

@@ -1,5 +1,6 @@
--- The causes of the statuses.
-use Rattle.std.specs.Prelude.{◌≡◌, ◌<◌, ◌⊎◌, ℕ, List}
+-- The causes of the statuses, and what they leave.
+use Rattle.std.specs.Prelude.{◌≡◌, ◌<◌, ◌⊎◌, ℕ, List, Option}
+use Rattle.elm_files.specs.Tree.{Tree, with_file}
 
 -- one of the two
 abbrev pub IsEither : ℕ → ℕ → ℕ → Type 0
@@ -10,3 +11,7 @@ pub data SomeCountRose (files files' : List ℕ → ℕ) (out out' err err' : �
   file_rose : (path : List ℕ) → files path < files' path → SomeCountRose files files' out out' err err'
   out_rose : out < out' → SomeCountRose files files' out out' err err'
   err_rose : err < err' → SomeCountRose files files' out out' err err'
+
+-- one file was written, and nothing else changed
+abbrev pub OneWritten : Option Tree → Option Tree → Type 0
+OneWritten old new = (path : List ℕ) × (text : List ℕ) × (new ≡ with_file old path text)

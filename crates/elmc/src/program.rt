@@ -3,7 +3,8 @@
 ghost use Rattle.std.specs.Prelude.{◌≡◌, ◌≢◌, ◌<◌, ◌≤◌, ◌⊎◌, ◌++◌, IfOk, codes, map, string_bytes};
 ghost use Rattle.elm_files.specs.Answers.{NoneFull};
 ghost use Rattle.elm_files.specs.Texts.{longer};
-ghost use Rattle.elmc.specs.Causes.{IsEither, SomeCountRose};
+ghost use Rattle.elmc.specs.Causes.{IsEither, OneWritten, SomeCountRose};
+ghost use Rattle.elm_make.specs.End.{HasNoText, HasText};
 ghost use Rattle.elmc.specs.Command.{NoMake};
 
 use crate::words::command;
@@ -41,6 +42,10 @@ pub fn top<R: Threads + Wait + Sync, F: Files, O: Sink, E: Sink, G: Gate + Sync>
     requires out { O.faults out.old < 18446744073709551615 }
     requires err { E.faults err.old < 18446744073709551615 }
 
+    // Status 0: one file was written, and a line is put on `out`. Status 1: lines are put on `err` alone.
+    ensures done { result ≡ 0 → OneWritten (F.tree files.old) (F.tree files.new) × (E.text err.new ≡ E.text err.old) }
+    ensures refused { result ≡ 1 → (F.tree files.new ≡ F.tree files.old) × (O.text out.new ≡ O.text out.old) }
+
     // Status 2 comes exactly for words that are no command, but for status 3 and 4.
     ensures words { result ≡ 2 → NoMake (map string_bytes words.now) }
     ensures no_words { NoMake (map string_bytes words.now) → result ≢ 2 → IsEither result 3 4 }
@@ -70,8 +75,8 @@ fn report<O: Sink, E: Sink>(out: &mut O, err: &mut E, built: &Built) -> u8
     ensures failed { result ≡ 3 → (O.faults out.old < O.faults out.new) ⊎ (E.faults err.old < E.faults err.new) }
     ensures known { result ≤ 4 }
     ensures not_words { result ≢ 2 }
-    ensures done { result ≡ 0 → O.text out.new ≡ longer (O.text out.old) built.now.lines.items }
-    ensures refused { result ≡ 1 → E.text err.new ≡ longer (E.text err.old) built.now.lines.items }
+    ensures done { result ≡ 0 → HasText built.now.outcome × (O.text out.new ≡ longer (O.text out.old) built.now.lines.items) × (E.text err.new ≡ E.text err.old) }
+    ensures refused { result ≡ 1 → HasNoText built.now.outcome × (E.text err.new ≡ longer (E.text err.old) built.now.lines.items) × (O.text out.new ≡ O.text out.old) }
 {
     match &built.outcome {
         Outcome::Text(_) => printed(out, err, &built.lines),
@@ -83,7 +88,7 @@ fn report<O: Sink, E: Sink>(out: &mut O, err: &mut E, built: &Built) -> u8
 fn printed<O: Sink, E: Sink>(out: &mut O, err: &mut E, line: &[u8]) -> u8
     requires out { O.faults out.old < 18446744073709551615 }
     ensures failed { result ≡ 3 → O.faults out.old < O.faults out.new }
-    ensures done { result ≡ 0 → O.text out.new ≡ longer (O.text out.old) line.now }
+    ensures done { result ≡ 0 → (O.text out.new ≡ longer (O.text out.old) line.now) × (E.text err.new ≡ E.text err.old) }
     ensures other { result ≢ 0 → IsEither result 3 4 }
 {
     match out.put(line) {

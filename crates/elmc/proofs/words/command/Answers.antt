@@ -1,8 +1,8 @@
-use Rattle.std.proofs.Common.{◌≡◌, ℕ, ◌++◌, List, length, map, arith, get_or, codes, sym, ◌∙◌, subst}
+use Rattle.std.proofs.Common.{◌≡◌, ◌++◌, arith, codes, sym, ◌∙◌, subst}
 use Rattle.std.specs.Prelude.{string_bytes}
 use Rattle.std.proofs.lemmas.Bool.{not-false}
 use Rattle.std.proofs.lemmas.Slice.Eq.{bytes_eq-Decides}
-use Rattle.elmc.specs.Command.{BeginsWithNoHyphen, IsMake, NoMake}
+use Rattle.elmc.specs.Command.{BeginsWithNoHyphen}
 use Rattle.elmc.proofs.FourWords.{four_words}
 use Rattle.elmc.proofs.words.command.Goals as goal
 
