@@ -1,0 +1,4 @@
+pub mod Spends
+pub mod SameRuns
+pub mod Laws
+pub mod Traces

@@ -1,0 +1,6 @@
+pub mod Ends
+pub mod Trace
+pub mod Driver
+pub mod Pay
+pub mod Alike
+pub mod View
