@@ -1,0 +1,5 @@
+pub mod Tree
+pub mod View
+pub mod Values
+pub mod Eval
+pub mod Run

@@ -1,0 +1,4 @@
+//! The canonical tree of a program, on which its meaning is defined.
+#![tactic(auto)]
+
+pub mod tree;

@@ -1,0 +1,7 @@
+pub mod Tree
+pub mod View
+pub mod Values
+pub mod Eval
+pub mod Run
+pub mod Text
+pub mod Subset
