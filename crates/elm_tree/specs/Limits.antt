@@ -1,0 +1,38 @@
+-- The limits of a text: how many constructs are open at once (parentheses, braces, lambdas), and how many operators a chain has.
+use Rattle.std.specs.Prelude.{ℕ, zero, suc, ◌+◌, List, [], ◌∷◌, Bool, true, false, ◌&&◌, nat_le}
+use Rattle.elm_tree.specs.Tree.{Expr, Int, Name, Qualified, UnitOf, Parens, Pair, Record, Apply, Chain, Lambda, Exprs, NoExpr, MoreExprs, Operands, NoOperand, MoreOperands, Fields, NoField, MoreFields}
+
+abbrev pub count_of : Operands → ℕ
+count_of NoOperand = 0
+count_of (MoreOperands op e os) = count_of os + 1
+
+-- so many constructs may still be opened inside of the expression, and a chain has at most 1024 operators
+abbrev mutual
+  pub is_within : Expr → ℕ → Bool
+  is_within (Int n) room = true
+  is_within (Name x) room = true
+  is_within (Qualified x) room = true
+  is_within UnitOf zero = false
+  is_within UnitOf (suc room) = true
+  is_within (Parens e) zero = false
+  is_within (Parens e) (suc room) = is_within e room
+  is_within (Pair a b) zero = false
+  is_within (Pair a b) (suc room) = is_within a room && is_within b room
+  is_within (Record fs) zero = false
+  is_within (Record fs) (suc room) = fields_within fs room
+  is_within (Apply f a es) room = is_within f room && (is_within a room && all_within es room)
+  is_within (Chain a op b os) room = nat_le (count_of os + 1) 1024 && (is_within a room && (is_within b room && operands_within os room))
+  is_within (Lambda p ps e) zero = false
+  is_within (Lambda p ps e) (suc room) = is_within e room
+
+  pub all_within : Exprs → ℕ → Bool
+  all_within NoExpr room = true
+  all_within (MoreExprs e es) room = is_within e room && all_within es room
+
+  pub operands_within : Operands → ℕ → Bool
+  operands_within NoOperand room = true
+  operands_within (MoreOperands op e os) room = is_within e room && operands_within os room
+
+  pub fields_within : Fields → ℕ → Bool
+  fields_within NoField room = true
+  fields_within (MoreFields x e fs) room = is_within e room && fields_within fs room
