@@ -1,0 +1,55 @@
+-- The example program, computed.
+use Rattle.std.specs.Prelude.{◌≡◌, ℕ, pos, List, [], ◌∷◌, true, codes, refl}
+use Rattle.std.specs.Fmt.{digits}
+use Rattle.wire_value.specs.Wire.{null, int}
+use Rattle.runs.specs.Trace.{Then, Sent, Ends, Ready, NoFuel}
+use Rattle.elm_canon.specs.Tree.{Local, Top, Named, Anything, Expr, Int, Var, Lambda, Apply, UnitOf, Pair, Record, NoExpr, MoreExpr, NoField, MoreField, IntPayload, AnyFlags, Wrapper, EmptyBatch, OutPort, Constant, Given, Project}
+use Rattle.elm_canon.specs.Run.{SourceRun}
+use Rattle.js_tree.specs.Run.{JsRun}
+use Rattle.js_tree.specs.Text.{lines_text}
+use Rattle.js_tree.specs.Subset.{in_subset}
+use Rattle.js_emit.specs.Emit.{Emit}
+use Rattle.js_emit.specs.Scoped.{groups_scoped}
+
+abbrev x : List ℕ → Expr
+x n = Var (Local n)
+
+abbrev main_of : Expr → Expr
+main_of a = Apply (Var (Top (codes "Platform") (codes "worker"))) (MoreExpr (Record
+    (MoreField (codes "init") (Lambda Anything (Pair UnitOf (Apply (Var (Top (codes "Main") (codes "out"))) (MoreExpr a NoExpr))))
+    (MoreField (codes "update") (Lambda Anything (Lambda (Named (codes "m")) (Pair (x (codes "m")) (Var (Top (codes "Platform.Cmd") (codes "none"))))))
+    (MoreField (codes "subscriptions") (Lambda Anything (Var (Top (codes "Platform.Sub") (codes "none")))) NoField)))) NoExpr)
+
+abbrev project_of : Expr → Project
+project_of a = record {
+  groups =
+      Given (Top (codes "Platform.Cmd") (codes "none")) EmptyBatch
+      ∷ Given (Top (codes "Platform.Sub") (codes "none")) EmptyBatch
+      ∷ Given (Top (codes "Platform") (codes "worker")) (Wrapper 0)
+      ∷ Given (Top (codes "Main") (codes "out")) (OutPort IntPayload)
+      ∷ Constant (Top (codes "Main") (codes "main")) (main_of a)
+      ∷ [];
+  main = Top (codes "Main") (codes "main");
+  name = codes "Main";
+  flags = AnyFlags;
+}
+
+scoped : groups_scoped [] (project_of (Int 42)).groups (project_of (Int 42)).main ≡ true
+scoped = refl
+
+sends : SourceRun (project_of (Int 42)) null [] 5 ≡ Then (Sent (codes "out") (int (pos 42))) (Ends Ready)
+sends = refl
+
+sends_js : JsRun (Emit (project_of (Int 42))) null [] 7 ≡ Then (Sent (codes "out") (int (pos 42))) (Ends Ready)
+sends_js = refl
+
+starved : JsRun (Emit (project_of (Int 42))) null [] 2 ≡ Ends NoFuel
+starved = refl
+
+spelled : lines_text (Emit (project_of (Int 42))) (Emit (project_of (Int 42))).body ≡ codes "const Platform$Cmd$none={\"$\":1,\"a0\":{\"$\":0}};\nconst Platform$Sub$none={\"$\":1,\"a0\":{\"$\":0}};\nconst Platform$worker=($$0=>{return {\"$\":0,\"a0\":$$0};});\nconst Main$out=($$0=>{return {\"$\":0,\"a0\":\"out\",\"a1\":_eSame()($$0)};});\nconst Main$main=Platform$worker({\"init\":($$0=>{return {\"$\":0,\"a0\":0,\"a1\":Main$out(42)};}),\"update\":($$1=>{return ($m=>{return {\"$\":0,\"a0\":$m,\"a1\":Platform$Cmd$none};});}),\"subscriptions\":($$2=>{return Platform$Sub$none;})});\nconst _main={\"name\":\"Main\",\"program\":Main$main,\"flags\":_dAny(),\"ins\":{},\"outs\":{\"out\":0}};\n"
+unfolding digits
+spelled = refl
+
+in_it : in_subset (Emit (project_of (Int 42))) ≡ true
+unfolding digits
+in_it = refl

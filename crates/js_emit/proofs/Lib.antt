@@ -1,0 +1,11 @@
+pub mod Examples
+pub mod Names
+pub mod For
+pub mod Envs
+pub mod Values
+pub mod Expressions
+pub mod Groups
+pub mod Sends
+pub mod Machines
+pub mod Fields
+pub mod Order

@@ -1,0 +1,22 @@
+//! From the canonical tree to JavaScript.
+#![tactic(auto)]
+
+ghost use Rattle.std.specs.Prelude.{◌≡◌, ℕ, List, codes};
+ghost use Rattle.wire_value.specs.Wire.{Wire};
+ghost use Rattle.runs.specs.Trace.{SameRun, IsClaimed};
+ghost use Rattle.elm_canon.specs.Tree.{Project};
+ghost use Rattle.elm_canon.specs.Run.{SourceRun};
+ghost use Rattle.js_tree.specs.Run.{JsRun};
+ghost use Rattle.js_emit.specs.Emit.{Emit};
+ghost use Rattle.js_emit.specs.Scoped.{IsScoped};
+
+mod build;
+pub mod emit;
+mod expr;
+mod ports;
+
+/// A program's JavaScript runs as the program does, for all flags and inputs, wherever something is claimed of the
+/// program's runs: at no fuel it ends with a number that is not exact, or where no rule applies.
+pub fn meaning_law()
+    ensures { (p : Project) → IsScoped p → (flags : Wire) (inputs : List (List ℕ × Wire)) → ((n : ℕ) → IsClaimed (SourceRun p flags inputs n)) → SameRun (SourceRun p flags inputs) (JsRun (Emit p) flags inputs) }
+{}
