@@ -2,48 +2,50 @@
 use Rattle.std.specs.Prelude.{◌≡◌, ◌<◌, ℕ, List, Option}
 use Rattle.elm_files.specs.declared.outside.FileError.{FileError}
 use Rattle.elm_files.specs.declared.outside.FileError.TheVariants.{Failed}
-use Rattle.elm_files.specs.Tree.{Tree, with_file}
-use Rattle.elm_make.specs.declared.project.Outcome.{Outcome}
-use Rattle.elm_make.specs.declared.project.Outcome.TheVariants.{Stopped, Faults, Text}
+use Rattle.elm_files.specs.declared.outside.FileError.TheVariants as no_memory
+use Rattle.elm_files.specs.Tree.{Tree, with_file, SameElsewhere}
 use Rattle.elm_make.specs.declared.project.BuildEnd.{BuildEnd}
 use Rattle.elm_make.specs.declared.project.BuildEnd.TheVariants.{File, NoMemory}
+use Rattle.elm_make.specs.Clean.{Outcome, Stopped, Faulty, Text}
 
 -- a file's path is told only where the count of faults of that path rose
 abbrev pub HasCause : BuildEnd → (List ℕ → ℕ) → (List ℕ → ℕ) → Type 0
 HasCause (File path) before after = before path < after path
 HasCause NoMemory before after = Unit {0}
 
+-- no count rises without a file's path being told
+abbrev pub IsToldIfRose : BuildEnd → (List ℕ → ℕ) → (List ℕ → ℕ) → Type 0
+IsToldIfRose (File path) before after = Unit {0}
+IsToldIfRose NoMemory before after = after ≡ before
+
+-- the end tells a file's path
+abbrev pub IsFile : BuildEnd → Type 0
+IsFile (File path) = Unit {0}
+IsFile NoMemory = ⊥
+
 -- a file's path is told only where it is this path and the call failed
 abbrev pub IsEndAt : BuildEnd → List ℕ → FileError → Type 0
 IsEndAt (File told) path error = (told ≡ path) × (error ≡ Failed)
 IsEndAt NoMemory path error = Unit {0}
 
+-- a call that failed ends the build with a path
+abbrev pub IsFailureTold : FileError → BuildEnd → Type 0
+IsFailureTold Failed end = IsFile end
+IsFailureTold no_memory.NoMemory end = end ≡ NoMemory
+
 -- where there is a text, the file at this path holds it, and nothing else changed; else nothing changed
 abbrev pub Leaves : List ℕ → Outcome → Option Tree → Option Tree → Type 0
-Leaves path (Text text) old new = new ≡ with_file old path text.items
-Leaves path (Stopped faults) old new = new ≡ old
-Leaves path (Faults faults) old new = new ≡ old
+Leaves path (Text text) old new = new ≡ with_file old path text
+Leaves path (Stopped lines) old new = new ≡ old
+Leaves path (Faulty lines) old new = new ≡ old
 
--- the same for some path
-abbrev pub LeavesSome : Outcome → Option Tree → Option Tree → Type 0
-LeavesSome outcome old new = (path : List ℕ) × Leaves path outcome old new
+-- a build that was not done changed at most the file at this path, and that only where a file failed
+abbrev pub LeavesAtEnd : List ℕ → BuildEnd → Option Tree → Option Tree → Type 0
+LeavesAtEnd path (File told) old new = SameElsewhere path old new
+LeavesAtEnd path NoMemory old new = new ≡ old
 
--- the build stopped before any module was compiled
-abbrev pub IsStopped : Outcome → Type 0
-IsStopped (Stopped faults) = Unit {0}
-IsStopped _ = ⊥
-
--- modules have faults
-abbrev pub HasFaults : Outcome → Type 0
-HasFaults (Faults faults) = Unit {0}
-HasFaults _ = ⊥
-
--- there is a text
-abbrev pub HasText : Outcome → Type 0
-HasText (Text text) = Unit {0}
-HasText _ = ⊥
-
--- there is none
-abbrev pub HasNoText : Outcome → Type 0
-HasNoText (Text text) = ⊥
-HasNoText _ = Unit {0}
+-- the lines that are printed for a text
+abbrev pub SaysDone : Outcome → List ℕ → List ℕ → Type 0
+SaysDone (Text text) lines wanted = lines ≡ wanted
+SaysDone (Stopped told) lines wanted = Unit {0}
+SaysDone (Faulty told) lines wanted = Unit {0}

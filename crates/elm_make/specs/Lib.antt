@@ -1,1 +1,4 @@
+pub mod Paths
+pub mod Clean
 pub mod End
+pub mod View

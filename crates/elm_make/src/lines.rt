@@ -1,12 +1,17 @@
 //! The lines that a build prints.
 
+ghost use Rattle.std.specs.Prelude.{◌≡◌, IfOk, codes, ◌++◌};
+ghost use Rattle.elm_make.specs.Clean.{start_line};
+
 use elm_base::fault::{Code, Fault, fault_line};
 use elm_base::position::{Pos, Region};
 use elm_base::text::Text;
 use std::alloc::{AllocError, Global};
 
-/// The line of a fault without detail at the start of a file.
-pub fn refusal(alloc: Global, code: Code, path: &str) -> Result<(Fault, Vec<u8>), AllocError> {
+/// A fault without detail at the start of the file at `path`, and its line.
+pub fn refusal(alloc: Global, code: Code, path: &str) -> Result<(Fault, Vec<u8>), AllocError>
+    ensures { IfOk result (λ told. told.1.items ≡ start_line code path.now) }
+{
     let start = Pos { row: 1, column: 1 };
     let fault = Fault {
         code,
@@ -19,7 +24,9 @@ pub fn refusal(alloc: Global, code: Code, path: &str) -> Result<(Fault, Vec<u8>)
 }
 
 /// `compiled to FILE, modules: 1`
-pub fn compiled(alloc: Global, output: &str) -> Result<Vec<u8>, AllocError> {
+pub fn compiled(alloc: Global, output: &str) -> Result<Vec<u8>, AllocError>
+    ensures { IfOk result (λ line. line.items ≡ codes "compiled to " ++ (output.now ++ codes ", modules: 1\n")) }
+{
     let mut line = Vec::with_capacity(alloc, output.len())?;
     line.extend_from_slice(b"compiled to ")?;
     line.extend_from_slice(output.as_bytes())?;

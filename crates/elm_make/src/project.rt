@@ -1,19 +1,30 @@
 //! One build of a project.
 
-ghost use Rattle.std.specs.Prelude.{◌≤◌, IfErr, IfOk, length};
+ghost use Rattle.std.specs.Prelude.{◌≡◌, ◌≤◌, ◌++◌, ℕ, List, [], ◌∷◌, IfErr, IfOk, IfSome, Some, None, codes, length};
+ghost use Rattle.elm_base.specs.declared.fault.Code.TheVariants.{BadOutput, EntryNotFound, NotYet as not_yet};
 ghost use Rattle.elm_files.specs.Answers.{NoneFull};
-ghost use Rattle.elm_make.specs.End.{HasCause, HasFaults, IsEndAt, IsStopped, Leaves, LeavesSome};
+ghost use Rattle.elm_make.specs.Clean.{Clean, IsBuiltFrom, IsFoldOf, Outcome as PlainOutcome, compiled_line, outcome_for, start_line};
+ghost use Rattle.elm_make.specs.Clean as plain;
+ghost use Rattle.elm_files.specs.Tree.{with_file};
+ghost use Rattle.elm_make.specs.End.{HasCause, IsToldIfRose, IsEndAt, IsFailureTold, Leaves, LeavesAtEnd, SaysDone};
+ghost use Rattle.elm_make.specs.Paths.{normal_path};
+ghost use Rattle.elm_make.specs.View.{built_view, text_view};
 
-use crate::compile::{MAX_TEXT, compile};
 use crate::lines::{compiled, refusal};
 use crate::paths::{is_absolute, is_entry, is_output, normal};
 use build_workers::Gate;
 use elm_base::fault::{Code, Fault};
 use elm_base::text::Text;
 use elm_files::{FileError, Files, Got};
+use js_emit::emit::emit;
+use js_printer::print_program;
+use module_compile::{Made, compile};
 use std::alloc::{AllocError, AllocFailed, Global};
 use std::sync::Wait;
 use std::thread::Threads;
+
+/// A module's text that is longer, in bytes, is refused.
+const MAX_TEXT: u64 = 4_194_304;
 
 /// What a build comes to.
 #[derive(Drop)]
@@ -83,8 +94,20 @@ pub fn build<R: Threads + Wait + Sync, F: Files, G: Gate + Sync>(
     gate: &G,
 ) -> Result<Built, BuildEnd>
     requires { NoneFull (F.faults files.old) }
+
+    // What it comes to is what the fold over the modules gives, and nothing else.
+    ensures clean { IfOk result (λ built. IfSome (F.tree files.old) (λ tree. Clean tree entry.now output.now (built_view built))) }
+    ensures only { IfOk result (λ built. IfSome (F.tree files.old) (λ tree. (other : PlainOutcome) → Clean tree entry.now output.now other → other ≡ built_view built)) }
+
+    // What it leaves and says.
+    ensures leaves { IfOk result (λ built. Leaves (normal_path output.now) (built_view built) (F.tree files.old) (F.tree files.new)) }
+    ensures says { IfOk result (λ built. SaysDone (built_view built) built.lines.items (compiled_line output.now)) }
+    ensures no_fault { IfOk result (λ built. F.faults files.new ≡ F.faults files.old) }
+
+    // Why it was not done, and what it leaves then.
     ensures cause { IfErr result (λ end. HasCause end (F.faults files.old) (F.faults files.new)) }
-    ensures leaves { IfOk result (λ built. LeavesSome built.outcome (F.tree files.old) (F.tree files.new)) }
+    ensures told { IfErr result (λ end. IsToldIfRose end (F.faults files.old) (F.faults files.new)) }
+    ensures leaves_at_end { IfErr result (λ end. LeavesAtEnd (normal_path output.now) end (F.tree files.old) (F.tree files.new)) }
 {
     let file = normal(alloc, output)?;
     if is_absolute(output) {
@@ -100,11 +123,33 @@ pub fn build<R: Threads + Wait + Sync, F: Files, G: Gate + Sync>(
     if !is_entry(&source) {
         return Ok(stopped(alloc, Code::EntryNotFound, &source)?);
     }
-    match files.read(&source, MAX_TEXT) {
-        Ok(Got::Bytes(text)) => build_text(alloc, files, gate, &source, &text, &file),
-        Ok(Got::TooLong) => Ok(refused(alloc, &source)?),
-        Ok(Got::Absent) => Ok(stopped(alloc, Code::EntryNotFound, &source)?),
-        Err(error) => Err(failed(alloc, error, &source)),
+    build_entry(alloc, files, gate, &source, &file)
+}
+
+/// Reads the module at `source`, compiles it, and writes its program to `file`.
+fn build_entry<F: Files, G: Gate>(
+    alloc: Global,
+    files: &mut F,
+    gate: &G,
+    source: &str,
+    file: &str,
+) -> Result<Built, BuildEnd>
+    requires { NoneFull (F.faults files.old) }
+    ensures clean { IfOk result (λ built. IfSome (F.tree files.old) (λ tree. IsBuiltFrom (tree source.now) source.now (built_view built))) }
+    ensures only { IfOk result (λ built. IfSome (F.tree files.old) (λ tree. (other : PlainOutcome) → IsBuiltFrom (tree source.now) source.now other → other ≡ built_view built)) }
+    ensures leaves { IfOk result (λ built. Leaves file.now (built_view built) (F.tree files.old) (F.tree files.new)) }
+    ensures says { IfOk result (λ built. SaysDone (built_view built) built.lines.items (codes "compiled to " ++ (file.now ++ codes ", modules: 1\n"))) }
+    ensures no_fault { IfOk result (λ built. F.faults files.new ≡ F.faults files.old) }
+    ensures cause { IfErr result (λ end. HasCause end (F.faults files.old) (F.faults files.new)) }
+    ensures told { IfErr result (λ end. IsToldIfRose end (F.faults files.old) (F.faults files.new)) }
+    ensures leaves_at_end { IfErr result (λ end. LeavesAtEnd file.now end (F.tree files.old) (F.tree files.new)) }
+{
+    let path = Text::copy(alloc, source.as_bytes())?;
+    match files.read(source, MAX_TEXT) {
+        Ok(Got::Bytes(text)) => build_text(alloc, files, gate, source, &text, file),
+        Ok(Got::TooLong) => Ok(refused(alloc, source)?),
+        Ok(Got::Absent) => Ok(stopped(alloc, Code::EntryNotFound, source)?),
+        Err(error) => Err(failed(error, path)),
     }
 }
 
@@ -119,16 +164,57 @@ fn build_text<F: Files, G: Gate>(
 ) -> Result<Built, BuildEnd>
     requires short { length text.now ≤ 4194304 }
     requires none_full { NoneFull (F.faults files.old) }
+    ensures clean { IfOk result (λ built. IsFoldOf ((source.now, Some text.now) ∷ []) (built_view built)) }
+    ensures only { IfOk result (λ built. (other : PlainOutcome) → IsFoldOf ((source.now, Some text.now) ∷ []) other → other ≡ built_view built) }
+    ensures leaves { IfOk result (λ built. Leaves file.now (built_view built) (F.tree files.old) (F.tree files.new)) }
+    ensures says { IfOk result (λ built. SaysDone (built_view built) built.lines.items (codes "compiled to " ++ (file.now ++ codes ", modules: 1\n"))) }
+    ensures no_fault { IfOk result (λ built. F.faults files.new ≡ F.faults files.old) }
     ensures cause { IfErr result (λ end. HasCause end (F.faults files.old) (F.faults files.new)) }
-    ensures leaves { IfOk result (λ built. Leaves file.now built.outcome (F.tree files.old) (F.tree files.new)) }
+    ensures told { IfErr result (λ end. IsToldIfRose end (F.faults files.old) (F.faults files.new)) }
+    ensures leaves_at_end { IfErr result (λ end. LeavesAtEnd file.now end (F.tree files.old) (F.tree files.new)) }
 {
     gate.before(0, 0);
-    let program = compile(alloc, text)?;
+    let program = program_text(alloc, text)?;
     gate.after(0, 0);
-    let Some(program) = program else {
-        return Ok(refused(alloc, source)?);
-    };
+    match program {
+        Some(program) => write_text(alloc, files, program, file),
+        None => Ok(refused(alloc, source)?),
+    }
+}
+
+/// The text of the program of a module's text, or none where the text is not that of an accepted module.
+fn program_text(alloc: Global, text: &[u8]) -> Result<Option<Vec<u8>>, AllocError>
+    requires { length text.now ≤ 4194304 }
+    ensures clean { IfOk result (λ program. (path : List ℕ) → IsFoldOf ((path, Some text.now) ∷ []) (outcome_for path (text_view program))) }
+    ensures only { IfOk result (λ program. (path : List ℕ) (other : PlainOutcome) → IsFoldOf ((path, Some text.now) ∷ []) other → other ≡ outcome_for path (text_view program)) }
+{
+    match compile(alloc, text)? {
+        Made::Good(project) => {
+            let program = emit(alloc, &project)?;
+            Ok(Some(print_program(alloc, &program)?))
+        }
+        Made::NotYet => Ok(None),
+    }
+}
+
+/// Writes the text of a program to `file`.
+fn write_text<F: Files>(
+    alloc: Global,
+    files: &mut F,
+    program: Vec<u8>,
+    file: &str,
+) -> Result<Built, BuildEnd>
+    requires { NoneFull (F.faults files.old) }
+    ensures text { IfOk result (λ built. built_view built ≡ plain.Text program.items) }
+    ensures leaves { IfOk result (λ built. F.tree files.new ≡ with_file (F.tree files.old) file.now program.items) }
+    ensures says { IfOk result (λ built. built.lines.items ≡ codes "compiled to " ++ (file.now ++ codes ", modules: 1\n")) }
+    ensures no_fault { IfOk result (λ built. F.faults files.new ≡ F.faults files.old) }
+    ensures cause { IfErr result (λ end. HasCause end (F.faults files.old) (F.faults files.new)) }
+    ensures told { IfErr result (λ end. IsToldIfRose end (F.faults files.old) (F.faults files.new)) }
+    ensures leaves_at_end { IfErr result (λ end. LeavesAtEnd file.now end (F.tree files.old) (F.tree files.new)) }
+{
     let lines = compiled(alloc, file)?;
+    let path = Text::copy(alloc, file.as_bytes())?;
     match files.write(file, &program) {
         Ok(()) => Ok(Built {
             outcome: Outcome::Text(program),
@@ -136,26 +222,24 @@ fn build_text<F: Files, G: Gate>(
             lines,
             reused: 0,
         }),
-        Err(error) => Err(failed(alloc, error, file)),
+        Err(error) => Err(failed(error, path)),
     }
 }
 
 /// The end of a build whose call on the file at `path` was refused.
-fn failed(alloc: Global, error: FileError, path: &str) -> BuildEnd
-    ensures { IsEndAt result path.now error }
+fn failed(error: FileError, path: Text) -> BuildEnd
+    ensures end { IsEndAt result path error }
+    ensures told { IsFailureTold error result }
 {
     match error {
-        FileError::Failed => match Text::copy(alloc, path.as_bytes()) {
-            Ok(path) => BuildEnd::File(path),
-            Err(_) => BuildEnd::NoMemory,
-        },
+        FileError::Failed => BuildEnd::File(path),
         FileError::NoMemory => BuildEnd::NoMemory,
     }
 }
 
 /// A build that stopped for a fault of the file at `path`.
 fn stopped(alloc: Global, code: Code, path: &str) -> Result<Built, AllocError>
-    ensures { IfOk result (λ built. IsStopped built.outcome) }
+    ensures { IfOk result (λ built. built_view built ≡ plain.Stopped (start_line code path.now)) }
 {
     let (fault, lines) = refusal(alloc, code, path)?;
     let mut faults = Vec::new(alloc);
@@ -170,7 +254,7 @@ fn stopped(alloc: Global, code: Code, path: &str) -> Result<Built, AllocError>
 
 /// A build of a project whose one module, at `path`, is not accepted.
 fn refused(alloc: Global, path: &str) -> Result<Built, AllocError>
-    ensures { IfOk result (λ built. HasFaults built.outcome) }
+    ensures { IfOk result (λ built. built_view built ≡ plain.Faulty (start_line not_yet path.now)) }
 {
     let (fault, lines) = refusal(alloc, Code::NotYet, path)?;
     let mut faults = Vec::new(alloc);

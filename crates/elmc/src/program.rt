@@ -3,8 +3,7 @@
 ghost use Rattle.std.specs.Prelude.{◌≡◌, ◌≢◌, ◌<◌, ◌≤◌, ◌⊎◌, ◌++◌, IfOk, codes, map, string_bytes};
 ghost use Rattle.elm_files.specs.Answers.{NoneFull};
 ghost use Rattle.elm_files.specs.Texts.{longer};
-ghost use Rattle.elmc.specs.Causes.{IsEither, OneWritten, SomeCountRose};
-ghost use Rattle.elm_make.specs.End.{HasNoText, HasText};
+ghost use Rattle.elmc.specs.Causes.{HasNoText, HasText, IsEither, OneWritten, SomeCountRose};
 ghost use Rattle.elmc.specs.Command.{NoMake};
 
 use crate::words::command;

@@ -1,0 +1,48 @@
+-- What the entry comes to, by what a read of its file finds.
+use Rattle.std.proofs.Common.{◌≡◌, ◌≤◌, ◌<◌, ℕ, List, [], ◌∷◌, Option, Some, None, length, refl, sym, ap, subst}
+use Rattle.std.specs.Prelude.{if◌then◌else◌, IsSomeAnd}
+use Rattle.std.specs.declared.vec.Vec.{Vec}
+use Rattle.std.specs.declared.alloc.Global.{Global}
+use Rattle.std.proofs.lemmas.Bool.{le-leb, lt-leb}
+use Rattle.elm_base.specs.declared.fault.Code.TheVariants.{NotYet as not_yet}
+use Rattle.elm_files.specs.declared.outside.Got.{Got}
+use Rattle.elm_files.specs.declared.outside.Got.TheVariants.{Bytes, TooLong}
+use Rattle.elm_files.specs.Tree.{IsReadOf}
+use Rattle.module_compile.specs.Made.{Result, NotYet, Made, too_long}
+use Rattle.elm_make.specs.Clean.{Outcome, Faulty, start_line, text_within, IsFoldOf, IsBuiltFrom}
+use Rattle.elm_make.proofs.Folds.{bad_fold, bad_fold_only}
+
+text_within_limit : (text : List ℕ) → length text ≤ 4194304 → text_within text ≡ Some text
+text_within_limit text short = ap (λ b. if b then Some text else None) (le-leb (length text) 4194304 short)
+
+text_over_limit : (text : List ℕ) → 4194304 < length text → text_within text ≡ None
+text_over_limit text long = ap (λ b. if b then Some text else None) (lt-leb (length text) 4194304 long)
+
+-- a file that was read comes to what the fold over its text gives
+pub fold_from_built : (file : Option (List ℕ)) (path : List ℕ) (bytes : Vec ℕ Global) (got : Got) → got ≡ Bytes bytes → IsReadOf file 4194304 got → (outcome : Outcome) → IsBuiltFrom file path outcome → IsFoldOf ((path, Some bytes.items) ∷ []) outcome
+fold_from_built file path bytes got is read outcome built =
+    let found : IsReadOf file 4194304 (Bytes bytes) = subst (λ g. IsReadOf file 4194304 g) is read in
+    let from_text : IsBuiltFrom (Some bytes.items) path outcome = subst (λ f. IsBuiltFrom f path outcome) found.0 built in
+    subst (λ text. IsFoldOf ((path, text) ∷ []) outcome) (text_within_limit bytes.items found.1) from_text
+
+-- a module over the limit has faults, and is nothing else
+only_faulty : (made : Result) → Made None made → made ≡ NotYet
+only_faulty made too_long = refl
+
+over_limit_built : (file : Option (List ℕ)) (path : List ℕ) → IsSomeAnd file (λ text. 4194304 < length text) → IsBuiltFrom file path (Faulty (start_line not_yet path))
+over_limit_built None path long = absurd long
+over_limit_built (Some text) path long =
+    subst (λ t. IsFoldOf ((path, t) ∷ []) (Faulty (start_line not_yet path))) (sym (text_over_limit text long)) (bad_fold path None too_long)
+
+over_limit_built_only : (file : Option (List ℕ)) (path : List ℕ) → IsSomeAnd file (λ text. 4194304 < length text) → (outcome : Outcome) → IsBuiltFrom file path outcome → outcome ≡ Faulty (start_line not_yet path)
+over_limit_built_only None path long outcome built = absurd long
+over_limit_built_only (Some text) path long outcome built =
+    bad_fold_only path None only_faulty outcome (subst (λ t. IsFoldOf ((path, t) ∷ []) outcome) (text_over_limit text long) built)
+
+-- a file that is too long comes to the fault of its module
+pub too_long_built : (file : Option (List ℕ)) (path : List ℕ) (got : Got) → got ≡ TooLong → IsReadOf file 4194304 got → IsBuiltFrom file path (Faulty (start_line not_yet path))
+too_long_built file path got is read = over_limit_built file path (subst (λ g. IsReadOf file 4194304 g) is read)
+
+-- and to nothing else
+pub too_long_built_only : (file : Option (List ℕ)) (path : List ℕ) (got : Got) → got ≡ TooLong → IsReadOf file 4194304 got → (outcome : Outcome) → IsBuiltFrom file path outcome → outcome ≡ Faulty (start_line not_yet path)
+too_long_built_only file path got is read = over_limit_built_only file path (subst (λ g. IsReadOf file 4194304 g) is read)

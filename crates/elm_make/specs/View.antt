@@ -1,0 +1,20 @@
+-- What a build of the program came to, as plain data.
+use Rattle.std.specs.Prelude.{ℕ, List, Option, option_map}
+use Rattle.std.specs.declared.vec.Vec.{Vec}
+use Rattle.std.specs.declared.alloc.Global.{Global}
+use Rattle.elm_make.specs.declared.project.Built.{Built}
+use Rattle.elm_make.specs.declared.project.Outcome as program
+use Rattle.elm_make.specs.Clean.{Outcome, Stopped, Faulty, Text}
+
+-- with the lines that are printed
+abbrev pub outcome_of : program.Outcome → List ℕ → Outcome
+outcome_of (program.Outcome.Stopped faults) lines = Stopped lines
+outcome_of (program.Outcome.Faults faults) lines = Faulty lines
+outcome_of (program.Outcome.Text text) lines = Text text.items
+
+abbrev pub built_view : Built → Outcome
+built_view b = outcome_of b.outcome b.lines.items
+
+-- a text, if there is one
+abbrev pub text_view : Option (Vec ℕ Global) → Option (List ℕ)
+text_view program = option_map (λ text. text.items) program
