@@ -5,3 +5,4 @@ pub mod Pieces
 pub mod Steps
 pub mod Numbers
 pub mod Loop
+pub mod Same

@@ -5,6 +5,7 @@ pub mod characters;
 pub mod error;
 pub mod gap;
 pub mod kind;
+pub mod laws;
 pub mod lexer;
 pub mod piece;
 pub mod place;

@@ -3,8 +3,10 @@
 //! Today a project is one module `Main` that starts a worker and sends one number.
 #![tactic(auto)]
 
+mod laws;
 mod lines;
 mod paths;
 mod project;
 
+pub use laws::{clean_law, translation_law};
 pub use project::{BuildEnd, Built, Outcome, build};

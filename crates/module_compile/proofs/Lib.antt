@@ -6,6 +6,7 @@ mod Sound
 mod Complete
 mod Module
 pub mod Results
+pub mod Same
 pub mod Argument
 pub mod Literals
 pub mod Tokens
