@@ -1,1 +1,3 @@
 pub mod FourWords
+pub mod Pieces
+pub mod Outcomes

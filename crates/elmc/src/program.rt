@@ -1,17 +1,21 @@
 //! The one call that the program makes.
 
-ghost use Rattle.std.specs.Prelude.{◌≡◌, ◌≢◌, ◌<◌, ◌≤◌, ◌⊎◌, ◌++◌, IfOk, codes, map, string_bytes};
-ghost use Rattle.elm_files.specs.Answers.{NoneFull};
-ghost use Rattle.elm_files.specs.Texts.{longer};
-ghost use Rattle.elmc.specs.Causes.{HasNoText, HasText, IsEither, OneWritten, SomeCountRose};
-ghost use Rattle.elmc.specs.Command.{NoMake};
+ghost use Rattle.std.specs.Prelude.{◌≡◌, ◌≢◌, ◌<◌, ◌≤◌, ◌⊎◌, ℕ, List, Some, map, string_bytes};
+ghost use Rattle.elm_files.specs.Answers.{NoneFull, SomeRose};
+ghost use Rattle.elm_files.specs.Texts.{LongerByPart, longer};
+ghost use Rattle.elm_files.specs.Tree.{SameElsewhere, Tree, with_file};
+ghost use Rattle.elm_make.specs.Clean.{Clean, Text as text_of};
+ghost use Rattle.elm_make.specs.Paths.{normal_path};
+ghost use Rattle.elm_make.specs.Translated.{IsTranslation};
+ghost use Rattle.elmc.specs.Causes.{Complains, IsDone, IsEither, IsOldOrWritten, IsRefusal, IsRefused, IsWrittenAndTold, Makes, SomeCountRose, TellsFile, memory_line};
+ghost use Rattle.elmc.specs.Command.{IsMake, NoMake};
 
+use crate::report::{file_failed, out_of_memory, printed, said};
 use crate::words::command;
 use build_workers::Gate;
-use elm_base::text::Text;
-use elm_files::{FileError, Files, Sink};
-use elm_make::{BuildEnd, Built, Outcome, build};
-use std::alloc::{AllocError, Global};
+use elm_files::{Files, Sink};
+use elm_make::{BuildEnd, Outcome, build};
+use std::alloc::Global;
 use std::sync::Wait;
 use std::thread::Threads;
 
@@ -40,107 +44,55 @@ pub fn top<R: Threads + Wait + Sync, F: Files, O: Sink, E: Sink, G: Gate + Sync>
     requires files { NoneFull (F.faults files.old) }
     requires out { O.faults out.old < 18446744073709551615 }
     requires err { E.faults err.old < 18446744073709551615 }
-
-    // Status 0: one file was written, and a line is put on `out`. Status 1: lines are put on `err` alone.
-    ensures done { result ≡ 0 → OneWritten (F.tree files.old) (F.tree files.new) × (E.text err.new ≡ E.text err.old) }
-    ensures refused { result ≡ 1 → (F.tree files.new ≡ F.tree files.old) × (O.text out.new ≡ O.text out.old) }
-
-    // Status 2 comes exactly for words that are no command, but for status 3 and 4.
-    ensures words { result ≡ 2 → NoMake (map string_bytes words.now) }
-    ensures no_words { NoMake (map string_bytes words.now) → result ≢ 2 → IsEither result 3 4 }
-
-    // It puts the usage on `err`, and does nothing else.
-    ensures usage { result ≡ 2 → E.text err.new ≡ longer (E.text err.old) USAGE.now }
-    ensures untouched { result ≡ 2 → (F.tree files.new ≡ F.tree files.old) × (O.text out.new ≡ O.text out.old) }
-
-    // Status 3 comes only where a file or a sink failed in this call.
-    ensures failed { result ≡ 3 → SomeCountRose (F.faults files.old) (F.faults files.new) (O.faults out.old) (O.faults out.new) (E.faults err.old) (E.faults err.new) }
     ensures known { result ≤ 4 }
+
+    // Status 0: the files come to a text, which the output's file holds now, and `out` has its line.
+    ensures done { result ≡ 0 → Makes (map string_bytes words.now) (IsDone (F.tree files.old) (F.tree files.new) (O.text out.old) (O.text out.new) (E.text err.old) (E.text err.new)) }
+
+    // Status 1: they come to no text, and `err` has their lines.
+    ensures refused { result ≡ 1 → Makes (map string_bytes words.now) (IsRefused (F.tree files.old) (F.tree files.new) (O.text out.old) (O.text out.new) (E.text err.old) (E.text err.new)) }
+
+    // Status 2: the words are no command, and the usage is put on `err`.
+    ensures words { result ≡ 2 → NoMake (map string_bytes words.now) }
+    ensures usage { result ≡ 2 → E.text err.new ≡ longer (E.text err.old) USAGE.now }
+
+    // Status 3: a count of faults rose. No count rises with another status, but that of `err` where want of memory is told.
+    ensures failed { result ≡ 3 → SomeCountRose (F.faults files.old) (F.faults files.new) (O.faults out.old) (O.faults out.new) (E.faults err.old) (E.faults err.new) }
+    ensures no_fault { result ≢ 3 → (F.faults files.new ≡ F.faults files.old) × (O.faults out.new ≡ O.faults out.old) }
+    ensures no_err_fault { result ≢ 3 → result ≢ 4 → E.faults err.new ≡ E.faults err.old }
+
+    // What is put then: where a file failed, the line that names it; else, on `out` or on `err`, the lines of the other
+    // statuses; or a part of them.
+    ensures names_file { SomeRose (F.faults files.old) (F.faults files.new) → TellsFile (F.faults files.old) (F.faults files.new) (E.text err.old) (E.text err.new) }
+    ensures on_out { (O.text out.new ≡ O.text out.old) ⊎ Makes (map string_bytes words.now) (IsWrittenAndTold (F.tree files.old) (F.tree files.new) (O.text out.old) (O.text out.new)) }
+    ensures on_err { result ≡ 3 → F.faults files.new ≡ F.faults files.old → (E.text err.new ≡ E.text err.old) ⊎ Complains (map string_bytes words.now) (F.tree files.old) (E.text err.old) (E.text err.new) }
+
+    // Status 4: want of memory is told, or a part of its line.
+    ensures memory { result ≡ 4 → LongerByPart (E.text err.old) memory_line (E.text err.new) }
+
+    // What is left, whatever the status: no file changes but the output's, and that, unless a file failed, only to the
+    // text that the files come to.
+    ensures elsewhere { (entry output : List ℕ) → IsMake (map string_bytes words.now) entry output → SameElsewhere (normal_path output) (F.tree files.old) (F.tree files.new) }
+    ensures kept { F.faults files.new ≡ F.faults files.old → IsOldOrWritten (map string_bytes words.now) (F.tree files.old) (F.tree files.new) }
+    ensures untouched { NoMake (map string_bytes words.now) → (F.tree files.new ≡ F.tree files.old) × (O.text out.new ≡ O.text out.old) }
+
+    // The statuses that come where the words are no command, where the files come to a text, and where they do not.
+    ensures no_words { NoMake (map string_bytes words.now) → result ≢ 2 → IsEither result 3 4 }
+    ensures complete { (tree : Tree) (entry output text : List ℕ) → F.tree files.old ≡ Some tree → IsMake (map string_bytes words.now) entry output → Clean tree entry output (text_of text) → result ≢ 0 → IsEither result 3 4 }
+    ensures refuses { (tree : Tree) (entry output lines : List ℕ) → F.tree files.old ≡ Some tree → IsMake (map string_bytes words.now) entry output → IsRefusal tree entry output lines → result ≢ 1 → IsEither result 3 4 }
+
+    // The text means what the module means.
+    ensures meaning { (tree : Tree) (entry output text : List ℕ) → F.tree files.old ≡ Some tree → IsMake (map string_bytes words.now) entry output → Clean tree entry output (text_of text) → IsTranslation (tree (normal_path entry)) text }
 {
     let Some(make) = command(words) else {
         return said(err, USAGE, 2);
     };
     match build(rt, alloc, files, make.entry, make.output, 1, gate) {
-        Ok(built) => report(out, err, &built),
-        Err(BuildEnd::File(path)) => file_failed(alloc, err, &path),
+        Ok(built) => match &built.outcome {
+            Outcome::Text(_) => printed(out, err, &built.lines),
+            Outcome::Stopped(_) | Outcome::Faults(_) => said(err, &built.lines, 1),
+        },
+        Err(BuildEnd::File(path)) => file_failed(err, &path),
         Err(BuildEnd::NoMemory) => out_of_memory(err),
     }
-}
-
-/// Puts what a build prints.
-fn report<O: Sink, E: Sink>(out: &mut O, err: &mut E, built: &Built) -> u8
-    requires out { O.faults out.old < 18446744073709551615 }
-    requires err { E.faults err.old < 18446744073709551615 }
-    ensures failed { result ≡ 3 → (O.faults out.old < O.faults out.new) ⊎ (E.faults err.old < E.faults err.new) }
-    ensures known { result ≤ 4 }
-    ensures not_words { result ≢ 2 }
-    ensures done { result ≡ 0 → HasText built.now.outcome × (O.text out.new ≡ longer (O.text out.old) built.now.lines.items) × (E.text err.new ≡ E.text err.old) }
-    ensures refused { result ≡ 1 → HasNoText built.now.outcome × (E.text err.new ≡ longer (E.text err.old) built.now.lines.items) × (O.text out.new ≡ O.text out.old) }
-{
-    match &built.outcome {
-        Outcome::Text(_) => printed(out, err, &built.lines),
-        Outcome::Stopped(_) | Outcome::Faults(_) => said(err, &built.lines, 1),
-    }
-}
-
-/// Puts a line on `out`, and answers the status of the command.
-fn printed<O: Sink, E: Sink>(out: &mut O, err: &mut E, line: &[u8]) -> u8
-    requires out { O.faults out.old < 18446744073709551615 }
-    ensures failed { result ≡ 3 → O.faults out.old < O.faults out.new }
-    ensures done { result ≡ 0 → (O.text out.new ≡ longer (O.text out.old) line.now) × (E.text err.new ≡ E.text err.old) }
-    ensures other { result ≢ 0 → IsEither result 3 4 }
-{
-    match out.put(line) {
-        Ok(()) => 0,
-        Err(FileError::Failed) => 3,
-        Err(FileError::NoMemory) => out_of_memory(err),
-    }
-}
-
-/// Puts lines on `err`, and answers the status, unless that put fails.
-fn said<E: Sink>(err: &mut E, lines: &[u8], status: u8) -> u8
-    requires err { E.faults err.old < 18446744073709551615 }
-    requires status { status < 3 }
-    ensures failed { result ≡ 3 → E.faults err.old < E.faults err.new }
-    ensures status { result ≢ status → IsEither result 3 4 }
-    ensures known { result ≤ 4 }
-    ensures given { result ≡ 2 → status ≡ 2 }
-    ensures text { result ≡ status → E.text err.new ≡ longer (E.text err.old) lines.now }
-{
-    match err.put(lines) {
-        Ok(()) => status,
-        Err(FileError::Failed) => 3,
-        Err(FileError::NoMemory) => out_of_memory(err),
-    }
-}
-
-/// Reports that the file at `path` failed.
-fn file_failed<E: Sink>(alloc: Global, err: &mut E, path: &Text) -> u8
-    ensures { IsEither result 3 4 }
-{
-    match failure_line(alloc, path) {
-        Ok(line) => {
-            let _ = err.put(&line);
-            3
-        }
-        Err(_) => out_of_memory(err),
-    }
-}
-
-/// `elmc: failed: PATH`
-fn failure_line(alloc: Global, path: &Text) -> Result<Vec<u8>, AllocError>
-    ensures { IfOk result (λ line. line.items ≡ codes "elmc: failed: " ++ (path.now ++ codes "\n")) }
-{
-    let mut line = Vec::from_slice(alloc, b"elmc: failed: ")?;
-    line.extend_from_slice(path.as_bytes())?;
-    line.push(b'\n')?;
-    Ok(line)
-}
-
-/// Reports that memory ran out.
-fn out_of_memory<E: Sink>(err: &mut E) -> u8
-    ensures { result ≡ 4 }
-{
-    let _ = err.put(b"elmc: out of memory\n");
-    4
 }

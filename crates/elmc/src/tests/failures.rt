@@ -21,6 +21,7 @@ fn tells_which_call_failed(rt: HostRuntime) -> Result<(), Fail> {
             "elmc: failed: out.js\n",
             text.as_bytes(),
         ),
+        (Some(1), None, Some(1), "elmc: failed: ", text.as_bytes()),
         (None, Some(0), None, "", text.as_bytes()),
         (None, None, Some(0), "", bad.as_bytes()),
     ];
