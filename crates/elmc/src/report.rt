@@ -1,6 +1,7 @@
 //! What the program puts on its sinks.
 
 ghost use Rattle.std.specs.Prelude.{◌≡◌, ◌≢◌, ◌<◌, IfOk};
+ghost use Rattle.elm_files.specs.Answers.{FailedIffRose};
 ghost use Rattle.elm_files.specs.Texts.{LongerByPart, longer};
 ghost use Rattle.elmc.specs.Causes.{IsEither, failure_line, memory_line};
 
@@ -58,6 +59,7 @@ pub fn file_failed<E: Sink>(err: &mut E, path: &Text) -> u8
 fn put_failure<E: Sink>(err: &mut E, path: &Text) -> Result<(), FileError>
     ensures whole { IfOk result (λ _. E.text err.new ≡ longer (E.text err.old) (failure_line path.now)) }
     ensures part { LongerByPart (E.text err.old) (failure_line path.now) (E.text err.new) }
+    ensures failed { FailedIffRose result (E.faults err.old) (E.faults err.new) }
 {
     err.put(b"elmc: failed: ")?;
     err.put(path.as_bytes())?;
