@@ -113,6 +113,15 @@ block_same _ _ r s (closes {depth} {text} h) k =
 block_same _ _ r s (goes_on {depth} {c} {text} p q h) k =
     block_same (suc depth) text r s h (at refl (rest_of 1 (c ∷ text)) (goes_only (suc depth) (c ∷ text) s (omega arith) p q k))
 
+pub block_nothing : (d : ℕ) (t r : List ℕ) → d ≡ 0 → IsBlock d t r → t ≡ r
+block_nothing d t r none h = by (inside d t r h)
+  where
+    by : Inside d t r → t ≡ r
+    by (is_ended z e) = e
+    by (opens_first k u z f h) = absurd (omega (arith, z, none))
+    by (closes_first k u z f h) = absurd (omega (arith, z, none))
+    by (other_first k c u z f p q h) = absurd (omega (arith, z, none))
+
 pub block_end : (d : ℕ) (t r : List ℕ) → IsBlock d t r → (body : List ℕ) × (t ≡ body ++ r)
 block_end _ _ _ ended = ([], refl)
 block_end _ _ r (opens {depth} {text} h) = let w = block_end _ text r h in (123 ∷ 45 ∷ w.0, ap (λ (xs : List ℕ). 123 ∷ 45 ∷ xs) w.1)

@@ -2,7 +2,10 @@ pub mod Basics
 pub mod Blocks
 pub mod Runs
 pub mod Pieces
+pub mod Texts
+pub mod Walks
 pub mod Steps
 pub mod Numbers
 pub mod Loop
 pub mod Same
+pub mod Names

@@ -1,19 +1,37 @@
--- How far a run of characters and a name go.
-use Rattle.std.proofs.Common.{◌≡◌, ℕ, ◌<◌, ◌≤◌, List, [], ◌∷◌, ◌++◌, length, Bool, true, false, ◌&&◌, ◌==◌, cond, sym, refl, ap, subst, ◌∙◌, arith, append_assoc, append-nil}
+-- How far a run of characters and a name go, in bytes. Texts are lists of characters here.
+use Rattle.std.proofs.Common.{◌≡◌, ℕ, ◌+◌, ◌<◌, ◌≤◌, List, [], ◌∷◌, ◌++◌, length, Bool, true, false, ◌&&◌, ◌==◌, cond, sym, refl, ap, subst, ◌∙◌, arith, append_assoc, append-nil, length-append}
+use Rattle.std.proofs.lemmas.Bool.Decides.{nat_tests}
+use Rattle.std.proofs.lemmas.Str.{length-encode, len_utf8_bounds}
+use Rattle.std.specs.Prelude.{encode_utf8_all}
+use Rattle.std.specs.Char.{encode_utf8}
 use Rattle.std.specs.List.{list_all}
-use Rattle.elm_lexer.specs.Characters.{is_letter, is_upper, is_name_char}
+use Rattle.elm_base.specs.Path.{is_name_char}
+use Rattle.elm_lexer.specs.Characters.{is_letter, is_upper}
 use Rattle.elm_lexer.specs.Kinds.{begins_upper}
 use Rattle.elm_lexer.specs.Lengths.{run, begins_letter, name_run}
 use Rattle.elm_lexer.specs.Pieces.{is_word, is_upper_word, IsName, word, joined}
 use Rattle.elm_lexer.proofs.Basics.{and_true, both_true, or_left, eq_true}
 
--- a front of the text with a property, of this length
+-- a character has a byte at least
+char_some : (c : ℕ) → 0 < length (encode_utf8 c)
+char_some c = omega (arith, length-encode c, (len_utf8_bounds c).0)
+
+-- a text with a byte has a character
+pub spelled_some : (cs : List ℕ) → 0 < length (encode_utf8_all cs) → 0 < length cs
+spelled_some [] h = absurd (omega (arith, h))
+spelled_some (c ∷ cs) h = omega arith
+
+-- the bytes of one character more
+pub spelled_more : (c : ℕ) (cs : List ℕ) → length (encode_utf8_all (c ∷ cs)) ≡ length (encode_utf8 c) + length (encode_utf8_all cs)
+spelled_more c cs = length-append (encode_utf8 c) (encode_utf8_all cs)
+
+-- a front of the text with a property, of so many bytes
 pub record Front (text : List ℕ) (Has : List ℕ → Type 0) (n : ℕ) : Type 0 where
   pub front : List ℕ
   pub rest : List ℕ
   pub whole : text ≡ front ++ rest
   pub has : Has front
-  pub long : length front ≡ n
+  pub long : length (encode_utf8_all front) ≡ n
 
 pub run_front : (test : ℕ → Bool) (t : List ℕ) → Front t (λ p. list_all test p ≡ true) (run test t)
 run_front test [] = record { front = []; rest = []; whole = refl; has = refl; long = refl }
@@ -26,28 +44,31 @@ run_front test (c ∷ cs) = at (run_front test cs) (test c) refl
           rest = w.rest;
           whole = ap (λ (xs : List ℕ). c ∷ xs) w.whole;
           has = both_true _ _ e w.has;
-          long = rw e (omega (arith, w.long));
+          long = rw e (spelled_more c w.front ∙ ap (λ k. length (encode_utf8 c) + k) w.long);
         }
     at w false e = record { front = []; rest = c ∷ cs; whole = refl; has = refl; long = rw e refl }
 
-pub run_longest : (test : ℕ → Bool) (p r : List ℕ) → list_all test p ≡ true → length p ≤ run test (p ++ r)
+pub run_longest : (test : ℕ → Bool) (p r : List ℕ) → list_all test p ≡ true → length (encode_utf8_all p) ≤ run test (p ++ r)
 run_longest test [] r h = omega arith
-run_longest test (c ∷ cs) r h = let w = and_true (test c) (list_all test cs) h in let l = run_longest test cs r w.1 in rw (w.0) (omega arith)
+run_longest test (c ∷ cs) r h = let w = and_true (test c) (list_all test cs) h in let l = run_longest test cs r w.1 in rw (w.0) (omega (arith, spelled_more c cs, l))
 
 -- the characters go on a name inside of a word that is upper case or not
 abbrev pub goes : Bool → List ℕ → Bool
 goes upper [] = true
 goes upper (c ∷ cs) = cond (is_name_char c) (goes upper cs) ((upper && (c == 46 && begins_letter cs)) && goes (begins_upper cs) cs)
 
+goes_char : (upper : Bool) (c : ℕ) (cs : List ℕ) → is_name_char c ≡ true → goes upper cs ≡ true → goes upper (c ∷ cs) ≡ true
+goes_char upper c cs n g = rw n g
+
 letter_name : (c : ℕ) → is_letter c ≡ true → is_name_char c ≡ true
-letter_name c e = or_left _ _ (or_left _ _ e)
+letter_name c e = grind (arith, nat_tests)
 
 upper_letter : (c : ℕ) → is_upper c ≡ true → is_letter c ≡ true
 upper_letter c e = or_left _ _ e
 
 pub name_run-letter : (upper : Bool) (cs : List ℕ) → begins_letter cs ≡ true → 0 < name_run upper cs
 name_run-letter upper [] e = absurd cc
-name_run-letter upper (c ∷ cs) e = let n = letter_name c e in rw n (omega arith)
+name_run-letter upper (c ∷ cs) e = let n = letter_name c e in rw n (omega (arith, char_some c))
 
 -- a front that is not empty begins as the text does
 same_letter : (t p r : List ℕ) → t ≡ p ++ r → 0 < length p → begins_letter p ≡ begins_letter t
@@ -67,7 +88,7 @@ name_front upper (c ∷ cs) = at (λ u. name_front u cs) (is_name_char c) refl
         let w = later (begins_upper cs) in
         let u = and_true _ _ e in
         let v = and_true _ _ u.1 in
-        let some : 0 < length w.front = let z = name_run-letter (begins_upper cs) cs v.1 in omega (arith, w.long) in
+        let some : 0 < length w.front = spelled_some w.front (subst (λ k. 0 < k) (sym w.long) (name_run-letter (begins_upper cs) cs v.1)) in
         let letter = same_letter cs w.front w.rest w.whole some in
         let case = same_upper cs w.front w.rest w.whole some in
         record {
@@ -75,7 +96,7 @@ name_front upper (c ∷ cs) = at (λ u. name_front u cs) (is_name_char c) refl
           rest = w.rest;
           whole = ap (λ (xs : List ℕ). c ∷ xs) w.whole;
           has = rw n (both_true _ _ (both_true _ _ u.0 (both_true _ _ v.0 (letter ∙ v.1))) (subst (λ b. goes b w.front ≡ true) (sym case) w.has));
-          long = rw (n, e) (omega (arith, w.long));
+          long = rw (n, e) (spelled_more c w.front ∙ ap (λ k. length (encode_utf8 c) + k) w.long);
         }
     point later false n e = record { front = []; rest = c ∷ cs; whole = refl; has = refl; long = rw (n, e) refl }
 
@@ -87,7 +108,7 @@ name_front upper (c ∷ cs) = at (λ u. name_front u cs) (is_name_char c) refl
           rest = w.rest;
           whole = ap (λ (xs : List ℕ). c ∷ xs) w.whole;
           has = rw e w.has;
-          long = rw e (omega (arith, w.long));
+          long = rw e (spelled_more c w.front ∙ ap (λ k. length (encode_utf8 c) + k) w.long);
         }
     at later false e = point later _ e refl
 
@@ -95,12 +116,12 @@ pub letters : (cs : List ℕ) → begins_letter cs ≡ true → 0 < length cs
 letters [] e = absurd cc
 letters (d ∷ ds) e = omega arith
 
-pub name_longest : (upper : Bool) (p r : List ℕ) → goes upper p ≡ true → length p ≤ name_run upper (p ++ r)
+pub name_longest : (upper : Bool) (p r : List ℕ) → goes upper p ≡ true → length (encode_utf8_all p) ≤ name_run upper (p ++ r)
 name_longest upper [] r h = omega arith
 name_longest upper (c ∷ cs) r h = at (λ u. name_longest u cs r) (is_name_char c) refl
   where
-    at : ((u : Bool) → goes u cs ≡ true → length cs ≤ name_run u (cs ++ r)) → (b : Bool) → is_name_char c ≡ b → length (c ∷ cs) ≤ name_run upper (c ∷ (cs ++ r))
-    at later true e = let l = later upper (rw e at h) in rw e (omega arith)
+    at : ((u : Bool) → goes u cs ≡ true → length (encode_utf8_all cs) ≤ name_run u (cs ++ r)) → (b : Bool) → is_name_char c ≡ b → length (encode_utf8_all (c ∷ cs)) ≤ name_run upper (c ∷ (cs ++ r))
+    at later true e = let l = later upper (rw e at h) in rw e (omega (arith, spelled_more c cs, l))
     at later false e =
         let u = and_true (upper && (c == 46 && begins_letter cs)) (goes (begins_upper cs) cs) (rw e at h) in
         let v = and_true upper (c == 46 && begins_letter cs) u.0 in
@@ -110,7 +131,7 @@ name_longest upper (c ∷ cs) r h = at (λ u. name_longest u cs r) (is_name_char
         let case = same_upper (cs ++ r) cs r refl some in
         let test : (upper && (c == 46 && begins_letter (cs ++ r))) ≡ true = both_true _ _ v.0 (both_true _ _ w.0 (sym letter ∙ w.1)) in
         let l = later (begins_upper (cs ++ r)) (subst (λ b. goes b cs ≡ true) case u.1) in
-        rw (e, test) (omega arith)
+        rw (e, test) (omega (arith, spelled_more c cs, l))
 
 -- ---- names
 
@@ -170,4 +191,5 @@ name_goes _ (joined w {name} h k) = first w h (name_goes name k)
     first [] h later = absurd cc
     first (c ∷ cs) h later =
         let v = and_true (is_upper c) (list_all is_name_char cs) h in
-        (upper_letter c v.0, rw (v.0) (join_goes cs name v.1 later.0 later.1))
+        let u = upper_letter c v.0 in
+        (u, subst (λ b. goes b (c ∷ (cs ++ 46 ∷ name)) ≡ true) (sym v.0) (goes_char true c (cs ++ 46 ∷ name) (letter_name c u) (join_goes cs name v.1 later.0 later.1)))

@@ -5,11 +5,12 @@ use Rattle.elm_lexer.specs.declared.token.Kind.{Kind}
 use Rattle.elm_lexer.specs.Gaps.{begins_gap, IsGap}
 use Rattle.elm_lexer.specs.Pieces.{IsCut}
 use Rattle.elm_lexer.specs.Kinds.{kind_of}
+use Rattle.std.specs.Str.{IsUtf8, chars}
 use Rattle.elm_lexer.specs.Lengths.{piece_length}
 use Rattle.elm_lexer.specs.Tokens.{Place, Token, behind, token_at, AreTokens, no_more, gap, token}
 use Rattle.elm_lexer.proofs.Basics.{true_false}
 use Rattle.elm_lexer.proofs.Blocks.{gap_same, gap_begins}
-use Rattle.elm_lexer.proofs.Pieces.{cut_is, cut_at, piece_some}
+use Rattle.elm_lexer.proofs.Pieces.{cut_is, cut_at, spelled_piece}
 
 -- the rule by which a text has these tokens
 data Rule (p : Place) (touched : Bool) (t : List ℕ) (ts : List Token) : Type 0 where
@@ -52,18 +53,18 @@ gap_never p touched t ts b never h = by (rule p touched t ts h)
 
 -- ---- a text that begins with no gap
 
-pub token_whole : (p : Place) (touched : Bool) (t piece rest : List ℕ) (kind : Kind) (ts : List Token) → begins_gap t ≡ false → piece ≡ take (piece_length t) t → rest ≡ drop (piece_length t) t → kind_of piece ≡ Some kind → AreTokens (behind p piece) false rest ts → AreTokens p touched t (token_at p touched piece kind rest ∷ ts)
-token_whole p touched t piece rest kind ts b i j k h = token b (cut (piece_length t) refl) k h
+pub token_whole : (p : Place) (touched : Bool) (t piece rest : List ℕ) (kind : Kind) (ts : List Token) → IsUtf8 t → begins_gap t ≡ false → piece ≡ take (piece_length (chars t)) t → rest ≡ drop (piece_length (chars t)) t → kind_of piece ≡ Some kind → AreTokens (behind p piece) false rest ts → AreTokens p touched t (token_at p touched piece kind rest ∷ ts)
+token_whole p touched t piece rest kind ts u b i j k h = token b (cut (piece_length (chars t)) refl) k h
   where
     none_empty : kind_of [] ≡ Some kind → ⊥
     none_empty e = cc
 
-    cut : (n : ℕ) → piece_length t ≡ n → IsCut t piece rest
+    cut : (n : ℕ) → piece_length (chars t) ≡ n → IsCut t piece rest
     cut zero e = absurd (none_empty (subst (λ x. kind_of x ≡ Some kind) (i ∙ ap (λ n. take n t) e) k))
-    cut (suc n) e = subst (λ x. IsCut t x rest) (sym i) (subst (λ x. IsCut t (take (piece_length t) t) x) (sym j) (cut_is t (omega arith)))
+    cut (suc n) e = subst (λ x. IsCut t x rest) (sym i) (subst (λ x. IsCut t (take (piece_length (chars t)) t) x) (sym j) (cut_is t u (omega (arith, e))))
 
-pub token_only : (p : Place) (touched : Bool) (t piece rest : List ℕ) (kind : Kind) (us : List Token) → begins_gap t ≡ false → 0 < length t → piece ≡ take (piece_length t) t → rest ≡ drop (piece_length t) t → kind_of piece ≡ Some kind → AreTokens p touched t us → (ts : List Token) × (us ≡ token_at p touched piece kind rest ∷ ts) × AreTokens (behind p piece) false rest ts
-token_only p touched t piece rest kind us b some i j k h = by (rule p touched t us h)
+pub token_only : (p : Place) (touched : Bool) (t piece rest : List ℕ) (kind : Kind) (us : List Token) → IsUtf8 t → begins_gap t ≡ false → 0 < length t → piece ≡ take (piece_length (chars t)) t → rest ≡ drop (piece_length (chars t)) t → kind_of piece ≡ Some kind → AreTokens p touched t us → (ts : List Token) × (us ≡ token_at p touched piece kind rest ∷ ts) × AreTokens (behind p piece) false rest ts
+token_only p touched t piece rest kind us text b some i j k h = by (rule p touched t us h)
   where
     moved : (x y : List ℕ) (l : Kind) (ts : List Token) → x ≡ piece → y ≡ rest → l ≡ kind → us ≡ token_at p touched x l y ∷ ts → AreTokens (behind p x) false y ts → (ts : List Token) × (us ≡ token_at p touched piece kind rest ∷ ts) × AreTokens (behind p piece) false rest ts
     moved x y l ts e f g z h =
@@ -76,12 +77,12 @@ token_only p touched t piece rest kind us b some i j k h = by (rule p touched t 
     by (at_end f z) = absurd (omega (arith, ap length f))
     by (at_gap body s f g h) = true_false _ (gap_begins t s g) b
     by (at_token x y l ts c d f h z) =
-        let w = cut_at t x y d in
+        let w = cut_at t x y text d in
         let e = w.0 ∙ sym i in
         moved x y l ts e (w.1 ∙ sym j) (kinds x l e f) z h
 
-pub token_never : (p : Place) (touched : Bool) (t piece : List ℕ) (us : List Token) → begins_gap t ≡ false → 0 < length t → piece ≡ take (piece_length t) t → kind_of piece ≡ None → AreTokens p touched t us → ⊥
-token_never p touched t piece us b some i k h = by (rule p touched t us h)
+pub token_never : (p : Place) (touched : Bool) (t piece : List ℕ) (us : List Token) → IsUtf8 t → begins_gap t ≡ false → 0 < length t → piece ≡ take (piece_length (chars t)) t → kind_of piece ≡ None → AreTokens p touched t us → ⊥
+token_never p touched t piece us text b some i k h = by (rule p touched t us h)
   where
     kinds : (x : List ℕ) (l : Kind) → x ≡ piece → kind_of x ≡ Some l → ⊥
     kinds x l e f = let g = ap kind_of e in cc
@@ -89,7 +90,7 @@ token_never p touched t piece us b some i k h = by (rule p touched t us h)
     by : Rule p touched t us → ⊥
     by (at_end f z) = omega (arith, ap length f)
     by (at_gap body s f g h) = true_false _ (gap_begins t s g) b
-    by (at_token x y l ts c d f h z) = let w = cut_at t x y d in kinds x l (w.0 ∙ sym i) f
+    by (at_token x y l ts c d f h z) = let w = cut_at t x y text d in kinds x l (w.0 ∙ sym i) f
 
 -- ---- the end of the text
 
@@ -103,4 +104,4 @@ end_only p touched t us none h = by (rule p touched t us h)
     by : Rule p touched t us → us ≡ []
     by (at_end f z) = z
     by (at_gap body s f g h) = true_false _ (gap_begins t s g) (empty t none)
-    by (at_token x y l ts c d f h z) = absurd (omega (arith, none, piece_some x d.is_piece, length-append x y, ap length d.whole))
+    by (at_token x y l ts c d f h z) = absurd (omega (arith, none, spelled_piece x d.is_piece, length-append x y, ap length d.whole))

@@ -34,10 +34,6 @@ is_digit c = is_between 48 57 c
 abbrev pub is_hex_digit : ℕ → Bool
 is_hex_digit c = is_digit c || is_between 65 70 c || is_between 97 102 c
 
--- a letter, a digit or _
-abbrev pub is_name_char : ℕ → Bool
-is_name_char c = is_letter c || is_digit c || c == 95
-
 -- the characters that operators are made of
 abbrev pub is_operator_char : ℕ → Bool
 is_operator_char c = is_among (codes "+-/*=.<>:&|^?%!") c

@@ -5,3 +5,4 @@ pub mod Gaps
 pub mod Tokens
 pub mod View
 pub mod Lengths
+pub mod Names

@@ -1,7 +1,10 @@
--- Pieces: the shapes of what a text is cut into. A piece is a list of characters taken alone.
+-- Pieces: the shapes of what a text is cut into. A piece is a list of characters taken alone; a text is the bytes of characters.
+-- The characters of names are those of names in paths: `_`, ASCII letters and digits, and past ASCII those of XID_Continue.
 use Rattle.std.specs.Prelude.{◌≡◌, ℕ, ◌≤◌, Bool, false, ◌&&◌, List, [], ◌∷◌, ◌++◌, length, IsTrue}
 use Rattle.std.specs.List.{list_all}
-use Rattle.elm_lexer.specs.Characters.{is_letter, is_upper, is_digit, is_name_char, is_operator_char, is_mark}
+use Rattle.std.specs.Str.{IsUtf8, chars}
+use Rattle.elm_base.specs.Path.{is_name_char}
+use Rattle.elm_lexer.specs.Characters.{is_letter, is_upper, is_digit, is_operator_char, is_mark}
 
 -- a letter and then name characters
 abbrev pub is_word : List ℕ → Bool
@@ -30,8 +33,12 @@ pub data IsPiece : List ℕ → Type 0 where
   -- operator characters
   operator : {c : ℕ} {cs : List ℕ} → IsTrue (is_operator_char c) → IsTrue (list_all is_operator_char cs) → IsPiece (c ∷ cs)
 
+-- the bytes are those of the characters of a piece
+abbrev pub SpellsPiece : List ℕ → Type 0
+SpellsPiece bytes = IsUtf8 bytes × IsPiece (chars bytes)
+
 -- the text is the piece and then the rest, and no longer front of the text is a piece
 pub record IsCut (text piece rest : List ℕ) : Type 0 where
   pub whole : text ≡ piece ++ rest
-  pub is_piece : IsPiece piece
-  pub longest : (front others : List ℕ) → text ≡ front ++ others → IsPiece front → length front ≤ length piece
+  pub is_piece : SpellsPiece piece
+  pub longest : (front others : List ℕ) → text ≡ front ++ others → SpellsPiece front → length front ≤ length piece

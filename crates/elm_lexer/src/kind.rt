@@ -4,11 +4,10 @@ ghost use Rattle.std.specs.Prelude.{◌≡◌, ◌≤◌, ◌<◌, IsTrue, optio
 ghost use Rattle.std.specs.List.{list_all};
 ghost use Rattle.std.specs.Str.{bytes_eq};
 ghost use Rattle.elm_lexer.specs.Characters.{is_digit, is_hex_digit};
-ghost use Rattle.elm_lexer.specs.Kinds.{kind_in, reserved_words, marks, operators, last_word, name_kind, is_decimal, is_hexadecimal, digit_value, number_from, number_value, int_of, kind_of};
+ghost use Rattle.elm_lexer.specs.Kinds.{begins_upper, kind_in, reserved_words, marks, operators, last_word, name_kind, is_decimal, is_hexadecimal, digit_value, number_from, number_value, int_of, kind_of};
 ghost use Rattle.elm_lexer.specs.declared.token.Kind.TheVariants.{Backslash, Operator};
 
 use crate::characters::{is_digit, is_hex_digit, is_letter, is_mark, is_operator_char, is_upper};
-use crate::piece::begins_upper;
 use crate::token::Kind;
 
 /// The greatest integer: 2 to the 53rd, less one.
@@ -98,6 +97,15 @@ fn operator_kind(operator: &[u8]) -> Kind
     }
 }
 
+fn begins_upper(name: &[u8]) -> bool
+    ensures { result ≡ begins_upper name.now }
+{
+    match name {
+        [c, ..] => is_upper(char::from(*c)),
+        [] => false,
+    }
+}
+
 /// The last word of a name.
 fn last_word(name: &[u8]) -> &[u8]
     ensures { result.now ≡ last_word name.now name.now }
@@ -132,7 +140,7 @@ fn name_kind(name: &[u8]) -> Kind
 fn are_digits(digits: &[u8]) -> bool
     ensures { result ≡ list_all is_digit digits.now }
 {
-    digits.iter().all(|c| is_digit(*c))
+    digits.iter().all(|c| is_digit(char::from(*c)))
 }
 
 fn are_hex_digits(digits: &[u8]) -> bool
@@ -164,9 +172,10 @@ fn digit_value(c: u8) -> u64
     ensures value { result ≡ digit_value c }
     ensures small { result < 16 }
 {
-    if is_digit(c) {
+    let digit = char::from(c);
+    if is_digit(digit) {
         u64::from(c - b'0')
-    } else if is_upper(c) {
+    } else if is_upper(digit) {
         u64::from(c - b'A') + 10
     } else {
         u64::from(c - b'a') + 10
@@ -213,19 +222,20 @@ pub(crate) fn kind_of(piece: &[u8]) -> Option<Kind>
     let [c, after @ ..] = piece else {
         return None;
     };
-    if is_letter(*c) {
+    let first = char::from(*c);
+    if is_letter(first) {
         Some(name_kind(piece))
-    } else if is_digit(*c) {
+    } else if is_digit(first) {
         number_kind(piece)
-    } else if *c == b'_' {
+    } else if first == '_' {
         if after.is_empty() {
             Some(Kind::Underscore)
         } else {
             None
         }
-    } else if is_mark(*c) {
+    } else if is_mark(first) {
         Some(mark_kind(piece))
-    } else if is_operator_char(*c) {
+    } else if is_operator_char(first) {
         Some(operator_kind(piece))
     } else {
         None

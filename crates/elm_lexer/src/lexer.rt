@@ -26,23 +26,26 @@ pub fn tokens<'a>(alloc: Global, text: &'a [u8]) -> Result<Vec<Token<'a>>, LexEr
     ensures only { IfOk result (λ v. (ts : List PlainToken) → Tokens text.now ts → ts ≡ map token_view v.items) }
     ensures none { IfErr result (λ e. e ≡ NoTokens → (ts : List PlainToken) → Tokens text.now ts → ⊥) }
 {
-    if from_utf8(text).is_err() {
+    let Ok(whole) = from_utf8(text) else {
         return Err(LexError::NoTokens);
-    }
+    };
     let mut found = Vec::new(alloc);
-    let mut rest = text;
+    let mut rest = whole;
     let mut place = Pos { row: 1, column: 1 };
     let mut touched = false;
     while !rest.is_empty() {
-        if begins_gap(rest) {
-            let Some(after) = after_gap(rest) else {
+        let bytes = rest.as_bytes();
+        if begins_gap(bytes) {
+            let Some(after) = after_gap(bytes) else {
                 return Err(LexError::NoTokens);
             };
-            place = behind(place, &rest[..rest.len() - after.len()]);
-            rest = after;
+            let length = bytes.len() - after.len();
+            place = behind(place, &bytes[..length]);
+            rest = &rest[length..];
             touched = true;
         } else {
-            let (piece, after) = rest.split_at(piece_length(rest));
+            let length = piece_length(rest);
+            let (piece, after) = bytes.split_at(length);
             let Some(kind) = kind_of(piece) else {
                 return Err(LexError::NoTokens);
             };
@@ -54,7 +57,7 @@ pub fn tokens<'a>(alloc: Global, text: &'a [u8]) -> Result<Vec<Token<'a>>, LexEr
                 space_after: begins_gap(after),
             })?;
             place = behind(place, piece);
-            rest = after;
+            rest = &rest[length..];
             touched = false;
         }
     }

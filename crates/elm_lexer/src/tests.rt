@@ -38,6 +38,21 @@ fn numbers(rt: HostRuntime) -> Result<(), Fail> {
     Ok(())
 }
 
+#[test]
+fn names(rt: HostRuntime) -> Result<(), Fail> {
+    let text = "b\u{e9} A\u{e9}.b\u{fc}1 X\u{540d}=a\u{663} e\u{301}x y".as_bytes();
+    let found = tokens(rt.alloc(), text)?;
+    assert_eq!(rt; found.len(), 7);
+    assert!(rt; is_at(&found[0], Kind::LowerName, 1, 1, false, true));
+    assert!(rt; is_at(&found[1], Kind::QualifiedLower, 1, 4, true, true));
+    assert!(rt; is_at(&found[2], Kind::UpperName, 1, 11, true, false));
+    assert!(rt; is_at(&found[3], Kind::Equals, 1, 13, false, false));
+    assert!(rt; is_at(&found[4], Kind::LowerName, 1, 14, false, true));
+    assert!(rt; is_at(&found[5], Kind::LowerName, 1, 17, true, true));
+    assert!(rt; is_at(&found[6], Kind::LowerName, 1, 21, true, false));
+    Ok(())
+}
+
 fn is_refused(rt: &HostRuntime, text: &[u8]) -> bool
     requires { length text.now ≤ 4194304 }
 {
@@ -57,4 +72,11 @@ fn refused(rt: HostRuntime) {
     assert!(&rt; is_refused(&rt, b"{- {- -}"));
     assert!(&rt; is_refused(&rt, b"-- \xff"));
     assert!(&rt; !is_refused(&rt, b"_ {--} \\"));
+    assert!(&rt; is_refused(&rt, "12\u{e9}".as_bytes()));
+    assert!(&rt; is_refused(&rt, "_\u{e4}".as_bytes()));
+    assert!(&rt; is_refused(&rt, "\u{e9}".as_bytes()));
+    assert!(&rt; is_refused(&rt, "\u{301}".as_bytes()));
+    assert!(&rt; is_refused(&rt, "A\u{e9}.\u{fc}".as_bytes()));
+    assert!(&rt; is_refused(&rt, "a\u{d7}".as_bytes()));
+    assert!(&rt; is_refused(&rt, "a\u{1f600}".as_bytes()));
 }

@@ -1,13 +1,16 @@
 use Rattle.std.proofs.Common.{◌≡◌, ◌+◌, length}
-use Rattle.elm_lexer.specs.Characters.{is_name_char}
+use Rattle.std.specs.Str.{IsUtf8, chars}
+use Rattle.std.specs.Str.Iter.{chars_rest}
+use Rattle.elm_base.specs.Path.{is_name_char}
 use Rattle.elm_lexer.specs.Lengths.{run}
 use Rattle.elm_lexer.proofs.piece.name_chars.Given as goal
 
-abbrev pub invariant-loop-rest : goal.invariant-loop-rest
-invariant-loop-rest l = record {
-  within : l.count + length l.rest ≡ length l.text;
-  same : l.count + run is_name_char l.rest ≡ run is_name_char l.text;
+abbrev pub invariant-loop-c : goal.invariant-loop-c
+invariant-loop-c l = record {
+  text : IsUtf8 (chars_rest l.rest);
+  within : l.count + length (chars_rest l.rest) ≡ length l.text;
+  same : l.count + run is_name_char (chars (chars_rest l.rest)) ≡ run is_name_char (chars l.text);
 }
 
-abbrev pub decreases-loop-rest : goal.decreases-loop-rest
-decreases-loop-rest l = length l.rest
+abbrev pub decreases-loop-c : goal.decreases-loop-c
+decreases-loop-c l = length (chars_rest l.rest)

@@ -1,0 +1,5 @@
+use Rattle.elm_lexer.proofs.Names.{tokens_names}
+use Rattle.elm_lexer.proofs.laws.names_law.Goals as goal
+
+pub returns : goal.returns
+returns c = tokens_names
