@@ -35,7 +35,7 @@ then_same Unsafe h = refl
 then_same Stuck h = refl
 
 -- a function's body is one return
-returns_now : (e : Expr) (d : ℕ) → Return (now (emit d e)) ≡ emit d e
+pub returns_now : (e : Expr) (d : ℕ) → Return (now (emit d e)) ≡ emit d e
 returns_now (Int i) d = refl
 returns_now (Var r) d = refl
 returns_now (Lambda p e) d = refl

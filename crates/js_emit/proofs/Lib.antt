@@ -9,3 +9,6 @@ pub mod Sends
 pub mod Machines
 pub mod Fields
 pub mod Order
+pub mod Spelling
+pub mod Bound
+pub mod InSubset

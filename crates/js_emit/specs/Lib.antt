@@ -1,3 +1,4 @@
 pub mod Emit
 pub mod Literals
 pub mod Scoped
+pub mod Spelled
