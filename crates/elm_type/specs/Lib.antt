@@ -1,0 +1,4 @@
+pub mod Types
+pub mod Typing
+pub mod Worker
+pub mod Laws
