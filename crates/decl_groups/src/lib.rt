@@ -1,0 +1,19 @@
+//! The order of definitions that use each other.
+#![tactic(auto)]
+
+mod components;
+mod lists;
+mod order;
+mod ready;
+#[cfg(test)]
+mod tests;
+
+ghost use Rattle.std.specs.Prelude.{◌≡◌, ℕ, List};
+ghost use Rattle.decl_groups.specs.Groups.{IsOrder};
+
+pub use order::groups;
+
+/// The definitions of a module have one order: two orders behind the same placed definitions are equal.
+pub fn order_law()
+    ensures { (uses : List (List ℕ)) (placed : List ℕ) (groups others : List (List ℕ)) → IsOrder uses placed groups → IsOrder uses placed others → groups ≡ others }
+{}
