@@ -1,0 +1,9 @@
+pub mod Names
+pub mod Reached
+pub mod Places
+pub mod Scoped
+pub mod Contexts
+pub mod Groups
+pub mod ScopedGroups
+pub mod Schemes
+pub mod TypedGroups

@@ -1,0 +1,4 @@
+pub mod Items
+pub mod Link
+pub mod Checked
+pub mod Resolved
