@@ -3,6 +3,9 @@ pub mod View
 pub mod Words
 pub mod Spells
 pub mod Limits
+pub mod Shape
+pub mod Simple
 pub mod Regroup
 pub mod Utf16
+pub mod Begun
 pub mod Resolve

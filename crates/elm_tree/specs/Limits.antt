@@ -1,6 +1,7 @@
 -- The limits of a text: how many constructs are open at once (parentheses, braces, lambdas), and how many operators a chain has.
-use Rattle.std.specs.Prelude.{ℕ, zero, suc, ◌+◌, List, [], ◌∷◌, Bool, true, false, ◌&&◌, nat_le}
-use Rattle.elm_tree.specs.Tree.{Expr, Int, Name, Qualified, UnitOf, Parens, Pair, Record, Apply, Chain, Lambda, Exprs, NoExpr, MoreExprs, Operands, NoOperand, MoreOperands, Fields, NoField, MoreFields}
+use Rattle.std.specs.Prelude.{ℕ, zero, suc, ◌+◌, Bool, true, false, ◌&&◌, nat_le}
+use Rattle.std.specs.List.{list_all}
+use Rattle.elm_tree.specs.Tree.{TypeTree, TypeVariable, TypeName, UnitType, Function, TypeParens, TypeTrees, NoType, MoreTypes, Expr, Int, Name, Qualified, UnitOf, Parens, Pair, Record, Apply, Chain, Lambda, Exprs, NoExpr, MoreExprs, Operands, NoOperand, MoreOperands, Fields, NoField, MoreFields, Declaration, Port, Annotation, Definition, Module}
 
 abbrev pub count_of : Operands → ℕ
 count_of NoOperand = 0
@@ -36,3 +37,27 @@ abbrev mutual
   pub fields_within : Fields → ℕ → Bool
   fields_within NoField room = true
   fields_within (MoreFields x e fs) room = is_within e room && fields_within fs room
+
+-- so many constructs may still be opened inside of the type
+abbrev mutual
+  pub type_within : TypeTree → ℕ → Bool
+  type_within (TypeVariable a) room = true
+  type_within (TypeName t ts) room = types_within ts room
+  type_within UnitType zero = false
+  type_within UnitType (suc room) = true
+  type_within (Function a b) room = type_within a room && type_within b room
+  type_within (TypeParens t) zero = false
+  type_within (TypeParens t) (suc room) = type_within t room
+
+  pub types_within : TypeTrees → ℕ → Bool
+  types_within NoType room = true
+  types_within (MoreTypes t ts) room = type_within t room && types_within ts room
+
+-- at most 256 constructs are open at once
+abbrev pub declaration_within : Declaration → Bool
+declaration_within (Port x t) = type_within t 256
+declaration_within (Annotation x t) = type_within t 256
+declaration_within (Definition x ps e) = is_within e 256
+
+abbrev pub module_within : Module → Bool
+module_within m = list_all declaration_within m.declarations

@@ -1,7 +1,7 @@
 -- Resolve: the canonical tree that an expression means, where each name is a local one or one of a module. (Elm guide: modules; Elm 0.19.1
 -- default imports.) An expression that breaks one of the rules means nothing.
-use Rattle.std.specs.Prelude.{◌≡◌, ℕ, List, [], ◌∷◌, ◌++◌, Bool, true, false, not, ◌&&◌, ◌||◌, if◌then◌else◌, Option, Some, None, codes, map}
-use Rattle.std.specs.List.{list_any, list_all}
+use Rattle.std.specs.Prelude.{◌≡◌, ℕ, List, [], ◌∷◌, ◌++◌, Bool, true, not, ◌&&◌, if◌then◌else◌, Option, Some, None, codes}
+use Rattle.std.specs.List.{list_any}
 use Rattle.std.specs.Str.{bytes_eq}
 use Rattle.elm_canon.specs.Tree as canon
 use Rattle.elm_canon.specs.Tree.{Ref, Operator, Add}
@@ -9,7 +9,7 @@ use Rattle.elm_tree.specs.Utf16.{units_of}
 use Rattle.elm_tree.specs.Regroup.{Tree, Leaf, Node, Regroup}
 use Rattle.elm_tree.specs.Tree.{Pattern, NamePattern, Wildcard, Expr, Int, Name, Qualified, UnitOf, Parens, Pair, Record, Apply, Chain, Lambda, Exprs, NoExpr, MoreExprs, Operands, NoOperand, MoreOperands, Fields, NoField, MoreFields}
 
--- what is in scope: the module, the names that it declares, and the local ones
+-- what is in scope: the module, the names that it declares, and the local ones, as units
 pub record Scope : Type 0 where
   pub module_name : List ℕ
   pub declared : List (List ℕ)
@@ -21,8 +21,8 @@ is_among x names = list_any (λ y. bytes_eq x y) names
 -- a name without a module: a local one goes before one that the module declares
 abbrev pub name_meaning : Scope → List ℕ → Option Ref
 name_meaning s x =
-    if is_among x s.locals then Some (canon.Local (units_of x))
-    else (if is_among x s.declared then Some (canon.Top (units_of s.module_name) (units_of x)) else None)
+    if is_among x s.locals then Some (canon.Local x)
+    else (if is_among x s.declared then Some (canon.Top s.module_name x) else None)
 
 -- the value of the row that the name stands in
 abbrev pub row_of : {A : Type 0} → List ℕ → List (List ℕ × A) → Option A
@@ -40,10 +40,10 @@ core_values =
 abbrev pub operators : List (List ℕ × Operator)
 operators = (codes "+", Add) ∷ []
 
--- the names that patterns bind
+-- the names that patterns bind, as units
 abbrev pub bound_names : List Pattern → List (List ℕ)
 bound_names [] = []
-bound_names (NamePattern x ∷ ps) = x ∷ bound_names ps
+bound_names (NamePattern x ∷ ps) = units_of x ∷ bound_names ps
 bound_names (Wildcard ∷ ps) = bound_names ps
 
 -- each is new: no local name, none that the module declares, and none of those before it
@@ -79,7 +79,7 @@ expr_of (Node l op r) = canon.Binary op (expr_of l) (expr_of r)
 abbrev mutual
   pub Resolves : Expr → Scope → canon.Expr → Type 0
   Resolves (Int n) s c = c ≡ canon.Int n
-  Resolves (Name x) s c = (r : Ref) × (name_meaning s x ≡ Some r) × (c ≡ canon.Var r)
+  Resolves (Name x) s c = (r : Ref) × (name_meaning s (units_of x) ≡ Some r) × (c ≡ canon.Var r)
   Resolves (Qualified x) s c = (r : Ref) × (row_of x core_values ≡ Some r) × (c ≡ canon.Var r)
   Resolves UnitOf s c = c ≡ canon.UnitOf
   Resolves (Parens e) s c = Resolves e s c

@@ -3,8 +3,8 @@
 use Rattle.std.specs.Prelude.{◌≡◌, ℕ, ◌<◌, List, [], ◌∷◌}
 use Rattle.elm_lexer.specs.Tokens.{Token}
 use Rattle.elm_lexer.specs.declared.token.Kind.TheVariants as kind
-use Rattle.elm_tree.specs.Tree.{Expr, Declaration, Module}
-use Rattle.elm_tree.specs.Words.{Word, TextOf, NumberOf, Words, expr_words, header_words, declaration_words}
+use Rattle.elm_tree.specs.Tree.{Declaration, Module}
+use Rattle.elm_tree.specs.Words.{Word, TextOf, NumberOf, Words, header_words, declaration_words}
 
 -- the token is the word
 abbrev pub IsWord : Word → Token → Type 0

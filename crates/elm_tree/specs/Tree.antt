@@ -1,6 +1,6 @@
 -- The surface tree of a module, as plain data: what is written, and nothing more. (Elm syntax reference.) Names are lists of bytes, as they
 -- are written. Parentheses leave a node, and a chain of operators is flat.
-use Rattle.std.specs.Prelude.{ℕ, List, Bool}
+use Rattle.std.specs.Prelude.{ℕ, List}
 
 mutual
   pub data TypeTree : Type 0 where
@@ -10,6 +10,7 @@ mutual
     TypeName : List ℕ → TypeTrees → TypeTree
     UnitType : TypeTree
     Function : TypeTree → TypeTree → TypeTree
+    TypeParens : TypeTree → TypeTree
 
   pub data TypeTrees : Type 0 where
     NoType : TypeTrees
@@ -56,8 +57,8 @@ pub data Declaration : Type 0 where
   Port : List ℕ → TypeTree → Declaration
   -- name : type
   Annotation : List ℕ → TypeTree → Declaration
-  -- name = body
-  Definition : List ℕ → Expr → Declaration
+  -- name parameters = body
+  Definition : List ℕ → List Pattern → Expr → Declaration
 
 -- `port module NAME exposing (NAME, ..)` and the declarations
 pub record Module : Type 0 where

@@ -2,7 +2,7 @@
 use Rattle.std.specs.Prelude.{ℕ, List, [], ◌∷◌, ◌++◌, codes}
 use Rattle.elm_lexer.specs.declared.token.Kind.{Kind}
 use Rattle.elm_lexer.specs.declared.token.Kind.TheVariants as kind
-use Rattle.elm_tree.specs.Tree.{TypeTree, TypeVariable, TypeName, UnitType, Function, TypeTrees, NoType, MoreTypes, Pattern, NamePattern, Wildcard, Expr, Int, Name, Qualified, UnitOf, Parens, Pair, Record, Apply, Chain, Lambda, Exprs, NoExpr, MoreExprs, Operands, NoOperand, MoreOperands, Fields, NoField, MoreFields, Declaration, Port, Annotation, Definition, Module}
+use Rattle.elm_tree.specs.Tree.{TypeTree, TypeVariable, TypeName, UnitType, Function, TypeParens, TypeTrees, NoType, MoreTypes, Pattern, NamePattern, Wildcard, Expr, Int, Name, Qualified, UnitOf, Parens, Pair, Record, Apply, Chain, Lambda, Exprs, NoExpr, MoreExprs, Operands, NoOperand, MoreOperands, Fields, NoField, MoreFields, Declaration, Port, Annotation, Definition, Module}
 
 -- a token of this kind and text, or an integer of this value, however it is written
 pub data Word : Type 0 where
@@ -44,6 +44,7 @@ abbrev mutual
   type_words (TypeName t ts) = one kind.UpperName t ++ arguments_words ts
   type_words UnitType = open_paren ++ close_paren
   type_words (Function a b) = type_words a ++ arrow ++ type_words b
+  type_words (TypeParens t) = open_paren ++ type_words t ++ close_paren
 
   pub arguments_words : TypeTrees → Words
   arguments_words NoType = []
@@ -92,7 +93,7 @@ port_word = one kind.Port (codes "port")
 abbrev pub declaration_words : Declaration → Words
 declaration_words (Port x t) = port_word ++ lower x ++ colon ++ type_words t
 declaration_words (Annotation x t) = lower x ++ colon ++ type_words t
-declaration_words (Definition x e) = lower x ++ equals ++ expr_words e
+declaration_words (Definition x ps e) = lower x ++ patterns_words ps ++ equals ++ expr_words e
 
 abbrev pub more_names : List (List ℕ) → Words
 more_names [] = []

@@ -8,6 +8,7 @@ ghost use Rattle.elm_tree.specs.Regroup.{Tree, Regroup};
 ghost use Rattle.elm_tree.specs.Resolve.{Scope, Resolves};
 
 pub mod tree;
+pub mod utf16;
 
 /// Operands joined by operators mean one tree.
 pub fn regroup_law()
