@@ -1,0 +1,9 @@
+pub mod Exact
+pub mod Fitting
+pub mod Pieces
+pub mod Steps
+pub mod Sound
+pub mod Complete
+pub mod Readers
+pub mod Loop
+pub mod Whole

@@ -1,0 +1,7 @@
+//! Reads the tokens of a whole module.
+#![tactic(auto)]
+
+pub mod laws;
+pub mod parser;
+
+pub use parser::parse_module;
