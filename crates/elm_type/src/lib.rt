@@ -11,6 +11,8 @@ ghost use Rattle.elm_type.specs.Typing.{Context, HasType, HasEveryInstance, IsTy
 ghost use Rattle.elm_type.specs.Laws.{IsGeneral, Reordered};
 ghost use Rattle.elm_type.specs.Worker.{HasCore, worker_of, worker_program, worker_context};
 
+pub mod types;
+
 /// No program that has types ever ends where no rule applies.
 pub fn typed_law()
     ensures { (p : Project) → IsTyped p → (flags : Wire) (n : ℕ) → IsRuled (SourceRun p flags [] n) }

@@ -1,11 +1,9 @@
 -- Which items of a module have their types: a value has the type of its annotation, where the names of the module have theirs. (Elm guide: types.)
-use Rattle.std.specs.Prelude.{◌≡◌, ◌⊎◌, ℕ, List, [], ◌∷◌, ◌++◌, Bool, true, false, not, ◌&&◌, map}
-use Rattle.elm_canon.specs.Tree.{Ref, Local, Top, Pattern, Named, Anything, Expr, Int, Var, Lambda, Apply, Binary, UnitOf, Pair, Triple, Record, Exprs, NoExpr, MoreExpr, IntPayload}
-use Rattle.elm_tree.specs.Resolve.{is_among}
-use Rattle.elm_type.specs.Types.{ElmType, NamedType, NoType, FunctionType, Scheme, Every, int_type}
+use Rattle.std.specs.Prelude.{ℕ, List, [], ◌∷◌, ◌++◌, map}
+use Rattle.elm_canon.specs.Tree.{Ref, Top, IntPayload}
+use Rattle.elm_type.specs.Types.{Scheme, Every}
 use Rattle.elm_type.specs.Typing.{Context, HasType, port_type, no_command, no_subscription, worker, no_command_type, no_subscription_type, worker_type}
-use Rattle.elm_type.specs.Worker.{worker_of}
-use Rattle.program_laws.specs.Items.{Item, PortItem, ValueItem, main_type}
+use Rattle.program_laws.specs.Items.{Item, PortItem, ValueItem}
 
 -- the core values with their types
 abbrev pub core_context : Context

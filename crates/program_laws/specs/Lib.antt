@@ -2,3 +2,5 @@ pub mod Items
 pub mod Link
 pub mod Checked
 pub mod Resolved
+pub mod View
+pub mod Plain

@@ -1,6 +1,6 @@
 -- Link: the program that the items of a module are. (Elm guide: JavaScript interop.) Items use each other by their places; what `main` reaches
 -- stands in the order of groups, behind the values of the core modules.
-use Rattle.std.specs.Prelude.{◌≡◌, ℕ, suc, ◌<◌, List, [], ◌∷◌, ◌++◌, Bool, true, false, ◌||◌, Option, Some, None, if◌then◌else◌, option_map, option_and_then, codes, map, ◌==◌, length}
+use Rattle.std.specs.Prelude.{◌≡◌, ℕ, suc, List, [], ◌∷◌, ◌++◌, Bool, true, false, Option, Some, None, if◌then◌else◌, option_map, option_and_then, codes, map, ◌==◌}
 use Rattle.std.specs.List.{list_any, slice_index_or}
 use Rattle.std.specs.Str.{bytes_eq}
 use Rattle.elm_canon.specs.Tree.{Ref, Local, Top, Expr, Int, Var, Lambda, Apply, Binary, UnitOf, Pair, Triple, Record, Exprs, NoExpr, MoreExpr, Fields, NoField, MoreField, Defs, NoDef, MoreDef, IntPayload, AnyFlags, Wrapper, EmptyBatch, OutPort, Group, Functions, Constant, Given, Project}

@@ -11,6 +11,8 @@ ghost use Rattle.js_emit.specs.Scoped.{IsScoped};
 ghost use Rattle.program_laws.specs.Link.{IsProgram};
 ghost use Rattle.program_laws.specs.Resolved.{AreResolved};
 
+pub mod items;
+
 /// Each group of the program of a module uses only what stands before it, or itself.
 pub fn scoped_law()
     ensures { (items : List Item) (p : Project) → AreResolved (codes "Main") items → IsProgram (codes "Main") items p → IsScoped p }
