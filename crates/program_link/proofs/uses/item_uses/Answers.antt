@@ -1,0 +1,22 @@
+use Rattle.std.proofs.Common.{sym, ap, ◌∙◌, ◌++◌}
+use Rattle.elm_canon.specs.View.{expr_view}
+use Rattle.program_laws.specs.Link.{item_uses, names_used}
+use Rattle.program_laws.specs.View.{item_view}
+use Rattle.program_link.specs.Uses.{place_in, places_by}
+use Rattle.program_link.proofs.Found.{places_by_of}
+use Rattle.program_link.proofs.uses.item_uses.Goals as goal
+use Rattle.program_link.proofs.uses.item_uses.Goals.{in-Port, in-Value+in_ok-push_uses-in-Value, in-Main+in_ok-push_uses-in-Main}
+
+pub returns : goal.returns
+returns c names h =
+    let m = c.args.home.now in
+    let find = place_in c.args.places.now in
+    elim c.match-item.branch [
+      | in-Port w ↦ ap (λ v. v.items) w.uses-is ∙ c.new-uses.ensures.items ∙ ap (λ i. item_uses m names (item_view i)) (sym w.in-Port.is)
+      | in-Value+in_ok-push_uses-in-Value w ↦
+          ap (λ v. v.items) w.uses-is ∙ w.in_ok-push_uses-in-Value.ensures ∙ ap (λ us. us ++ places_by find (names_used m (expr_view w.in-Value.value.body))) c.new-uses.ensures.items
+          ∙ places_by_of find names h (names_used m (expr_view w.in-Value.value.body)) ∙ ap (λ i. item_uses m names (item_view i)) (sym w.in-Value.is)
+      | in-Main+in_ok-push_uses-in-Main w ↦
+          ap (λ v. v.items) w.uses-is ∙ w.in_ok-push_uses-in-Main.ensures ∙ ap (λ us. us ++ places_by find (names_used m (expr_view w.in-Main.body))) c.new-uses.ensures.items
+          ∙ places_by_of find names h (names_used m (expr_view w.in-Main.body)) ∙ ap (λ i. item_uses m names (item_view i)) (sym w.in-Main.is)
+    ]

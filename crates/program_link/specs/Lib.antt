@@ -1,0 +1,4 @@
+pub mod Uses
+pub mod Marks
+pub mod Taken
+pub mod Program

@@ -1,0 +1,9 @@
+//! The program that the items of a module are.
+#![tactic(auto)]
+
+mod build;
+pub mod laws;
+pub mod link;
+mod reach;
+mod uses;
+mod words;
