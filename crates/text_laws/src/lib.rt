@@ -1,0 +1,29 @@
+//! What the tokens of a text give for the names and the literals of its program.
+#![tactic(auto)]
+
+ghost use Rattle.std.specs.Prelude.{ℕ, ◌≤◌, List, length, codes};
+ghost use Rattle.elm_canon.specs.Tree.{Project};
+ghost use Rattle.elm_lexer.specs.Tokens.{Token, Tokens};
+ghost use Rattle.elm_tree.specs.Tree.{Module};
+ghost use Rattle.elm_tree.specs.Spells.{Spells};
+ghost use Rattle.js_emit.specs.Literals.{ProjectHasExactLiterals};
+ghost use Rattle.js_emit.specs.Spelled.{CanBeSpelled};
+ghost use Rattle.program_laws.specs.Items.{Item};
+ghost use Rattle.program_laws.specs.Link.{IsProgram};
+ghost use Rattle.module_items.specs.Items.{IsModule};
+
+/// Each literal of the program of a text's module is exact.
+pub fn exact_law()
+    ensures { (text : List ℕ) (ts : List Token) (m : Module) (items : List Item) (p : Project) → Tokens text ts → Spells m ts → IsModule m items → IsProgram (codes "Main") items p → ProjectHasExactLiterals p }
+{}
+
+/// JavaScript can spell the program of a text's module.
+pub fn spelled_law()
+    ensures { (text : List ℕ) (ts : List Token) (m : Module) (items : List Item) (p : Project) → Tokens text ts → Spells m ts → IsModule m items → IsProgram (codes "Main") items p → CanBeSpelled p }
+{}
+
+/// A text has at least as many bytes as tokens, and a module declares at most as many items as it has tokens.
+pub fn few_law()
+    ensures tokens { (text : List ℕ) (ts : List Token) → Tokens text ts → length ts ≤ length text }
+    ensures items { (ts : List Token) (m : Module) (items : List Item) → Spells m ts → IsModule m items → length items ≤ length ts }
+{}
