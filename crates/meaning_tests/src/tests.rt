@@ -1,4 +1,4 @@
-//! `bench/meaning.sh` runs the same arguments in node.
+//! `bench/meaning.sh` runs the same programs in node.
 
 use elm_base::units::Units;
 use js_emit::emit::emit;
@@ -11,12 +11,15 @@ use wire_value::wire::Wire;
 /// How deep the evaluators' own calls may nest.
 const DEPTH: u64 = 2000;
 
-/// The module of a worker up to the number that it sends.
+/// The header of a module, and its port.
 const FRONT: &str = r#"port module Main exposing (main)
 
 port out : Int -> Cmd msg
 
-main : Program () () ()
+"#;
+
+/// Its `main`, up to the number that it sends.
+const MAIN: &str = r#"main : Program () () ()
 main =
     Platform.worker
         { init = \_ -> ( (), out "#;
@@ -28,8 +31,11 @@ const BACK: &str = r#" )
         }
 "#;
 
-fn module(alloc: Global, argument: &str) -> Result<String, AllocError> {
+/// A worker that sends this number, with these definitions.
+fn module(alloc: Global, definitions: &str, argument: &str) -> Result<String, AllocError> {
     let mut text = String::from_str(alloc, FRONT)?;
+    text.push_str(definitions)?;
+    text.push_str(MAIN)?;
     text.push_str(argument)?;
     text.push_str(BACK)?;
     Ok(text)
@@ -59,7 +65,19 @@ fn both_are(
     budget: u64,
     wanted: &Trace,
 ) -> Result<bool, Fail> {
-    let text = module(alloc, argument)?;
+    both_run(alloc, "", argument, source_fuel, budget, wanted)
+}
+
+/// The same of a worker with definitions.
+fn both_run(
+    alloc: Global,
+    definitions: &str,
+    argument: &str,
+    source_fuel: u64,
+    budget: u64,
+    wanted: &Trace,
+) -> Result<bool, Fail> {
+    let text = module(alloc, definitions, argument)?;
     if text.len() > 4_194_304 {
         return Ok(false);
     }
@@ -100,5 +118,108 @@ fn other_ends_agree(rt: HostRuntime) -> Result<(), Fail> {
     let no_fuel = ends(alloc, Last::NoFuel);
     assert!(rt; both_are(alloc, "42", 1, 2, &no_fuel)?);
     assert!(rt; both_are(alloc, "42", 0, 0, &no_fuel)?);
+    Ok(())
+}
+
+#[test]
+fn definitions_are_used(rt: HostRuntime) -> Result<(), Fail> {
+    let alloc = rt.alloc();
+    let cases: [(&str, &str, i64); 7] = [
+        ("f : Int -> Int\nf x = x + 1\n", "(f 41)", 42),
+        (
+            "add : Int -> Int -> Int\nadd x y = x + y\nadd3 : Int -> Int\nadd3 = add 3\n",
+            "(add3 (add 10 20))",
+            33,
+        ),
+        (
+            "twice : (Int -> Int) -> Int -> Int\ntwice f x = f (f x)\nnext : Int -> Int\nnext n = n + 1\n",
+            "(twice (twice next) 0 + twice next 10)",
+            16,
+        ),
+        (
+            "first : Int -> Int -> Int\nfirst x y = x\nlast : Int -> Int -> Int\nlast x y = y\n",
+            "(first 1 2 + last 30 40)",
+            41,
+        ),
+        (
+            "even : Int -> Int -> Int\neven x y = odd y x\nodd : Int -> Int -> Int\nodd x y = even y x\nlater : (Int -> Int) -> Int -> Int\nlater h x = x\n",
+            "(later (even 1) 7)",
+            7,
+        ),
+        (
+            "gr\u{f6}\u{df}e2 : Int -> Int\ngr\u{f6}\u{df}e2 x\u{540d}_1 = x\u{540d}_1 + 2\n",
+            "(gr\u{f6}\u{df}e2 5)",
+            7,
+        ),
+        ("n : Int\nn = k + k\nk : Int\nk = 21\n", "n", 42),
+    ];
+    for (definitions, argument, number) in cases {
+        let wanted = sends(alloc, number)?;
+        assert!(rt;
+            both_run(alloc, definitions, argument, 20, 40, &wanted)?,
+            "{argument}"
+        );
+    }
+    Ok(())
+}
+
+#[test]
+fn endless_recursion_runs_out_of_fuel(rt: HostRuntime) -> Result<(), Fail> {
+    let alloc = rt.alloc();
+    let no_fuel = ends(alloc, Last::NoFuel);
+    let alone = "f : Int -> Int\nf x = f (x + 1)\n";
+    let both = "even : Int -> Int\neven x = odd x\nodd : Int -> Int\nodd x = even x\n";
+    for definitions in [alone, both] {
+        for fuel in [0, 1, 10, 100] {
+            let argument = if definitions == alone {
+                "(f 0)"
+            } else {
+                "(odd 1)"
+            };
+            assert!(rt;
+                both_run(alloc, definitions, argument, fuel, fuel, &no_fuel)?,
+                "{fuel}"
+            );
+        }
+    }
+    Ok(())
+}
+
+/// Definitions `fK x = fJ x + 1`, from the last to `f0 x = x`, so that each stands before the one that it uses.
+fn ladder(alloc: Global, count: u32) -> Result<String, AllocError> {
+    let mut text = String::new(alloc);
+    for place in 0..count {
+        let number = count - place;
+        text.push_str(&format!(in alloc;
+            "f{} : Int -> Int\nf{} x = f{} x + 1\n",
+            number,
+            number,
+            number - 1
+        )?)?;
+    }
+    text.push_str("f0 : Int -> Int\nf0 x = x\n")?;
+    Ok(text)
+}
+
+#[test]
+fn definitions_in_reverse_order(rt: HostRuntime) -> Result<(), Fail> {
+    let alloc = rt.alloc();
+    let definitions = ladder(alloc, 199)?;
+    let wanted = sends(alloc, 200)?;
+    assert!(rt; both_run(alloc, &definitions, "(f199 1)", 300, 600, &wanted)?);
+    Ok(())
+}
+
+#[test]
+fn a_chain_of_applications(rt: HostRuntime) -> Result<(), Fail> {
+    let alloc = rt.alloc();
+    let mut argument = String::from_str(alloc, "(next 1")?;
+    for _ in 1..1000 {
+        argument.push_str(" + next 1")?;
+    }
+    argument.push_str(")")?;
+    let wanted = sends(alloc, 2000)?;
+    let definitions = "next : Int -> Int\nnext n = n + 1\n";
+    assert!(rt; both_run(alloc, definitions, &argument, 20, 2000, &wanted)?);
     Ok(())
 }

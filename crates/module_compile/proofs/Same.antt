@@ -1,35 +1,41 @@
 -- A text comes to at most one result.
-use Rattle.std.proofs.Common.{◌≡◌, ℕ, List, Option, Some, None, true, refl, sym}
-use Rattle.elm_lexer.specs.Tokens.{Token}
+use Rattle.std.proofs.Common.{◌≡◌, ℕ, List, Option, Some, None, refl, sym, subst, codes, ap}
 use Rattle.elm_lexer.proofs.Same.{same_tokens}
-use Rattle.elm_canon.specs.Tree as canon
-use Rattle.elm_tree.specs.Tree.{Expr}
+use Rattle.elm_canon.specs.Tree.{Project}
 use Rattle.elm_tree.specs.Spells.{Spells}
-use Rattle.elm_tree.specs.Limits.{is_within}
-use Rattle.elm_tree.proofs.Resolved.{one_meaning}
-use Rattle.module_compile.specs.Stage.{is_argument, worker_body, worker_module, worker_scope, worker_project}
+use Rattle.program_laws.specs.Link.{IsProgram}
+use Rattle.module_items.specs.Items.{IsModule}
+use Rattle.elm_parser.proofs.Whole.{same_tree}
+use Rattle.module_items.proofs.Same.{one_list}
+use Rattle.module_items.proofs.AreSimple.{is_read}
+use Rattle.program_link.proofs.Unique.{one_program}
 use Rattle.module_compile.specs.Made.{IsAccepted, Result, Good, NotYet, Made, accepted, refused, too_long}
-use Rattle.module_compile.proofs.Module.{found, found_only}
-use Rattle.module_compile.proofs.Results.{IsCutInto, IsReadAs, good_only, bad_only}
 
--- tokens that spell the module of an argument within its limits spell that of no other
-read_as : (ts : List Token) (e : Expr) → is_argument e ≡ true → is_within (worker_body e) 256 ≡ true → Spells (worker_module e) ts → IsReadAs ts e
-read_as ts e a w s =
-    let only : (other : Expr) → is_argument other ≡ true → Spells (worker_module other) ts → other ≡ e = found e ts a w s (λ us vs h. found_only e ts us vs h) in
-    record { tree = s; admitted = a; within = w; only = only }
+-- an accepted text is that of one program
+pub same_program : (text : List ℕ) (p q : Project) → IsAccepted text p → IsAccepted text q → p ≡ q
+same_program text p q a b =
+    let cut : b.tokens ≡ a.tokens = same_tokens text b.tokens a.tokens b.cut a.cut in
+    let spelled : Spells b.tree a.tokens = subst (λ ts. Spells b.tree ts) cut b.spelled in
+    let tree : b.tree ≡ a.tree = same_tree a.tokens b.tree a.tree (is_read b.tree b.items b.meant) (is_read a.tree a.items a.meant) b.shaped a.shaped b.within a.within spelled a.spelled in
+    let meant : IsModule a.tree b.items = subst (λ m. IsModule m b.items) tree b.meant in
+    let items : b.items ≡ a.items = one_list a.tree b.items a.items meant a.meant in
+    one_program (codes "Main") a.items p q a.linked (subst (λ is. IsProgram (codes "Main") is q) items b.linked)
 
 -- an accepted text comes to its program alone
-accepted_only : (text : List ℕ) (body : canon.Expr) → IsAccepted text body → (other : Result) → Made (Some text) other → other ≡ Good (worker_project body)
-accepted_only text body h =
-    let cut : IsCutInto text h.tokens = record { found = h.cut; only = λ us k. same_tokens text us h.tokens k h.cut } in
-    let read = read_as h.tokens h.argument h.admitted h.within h.spelled in
-    good_only text h.tokens h.argument body (worker_project body) cut read h.resolved (λ other m. one_meaning (worker_body h.argument) worker_scope other body m h.resolved) refl
+pub accepted_only : (text : List ℕ) (p : Project) → IsAccepted text p → (other : Result) → Made (Some text) other → other ≡ Good p
+accepted_only text p a _ (accepted {p = q} b) = ap Good (same_program text q p b a)
+accepted_only text p a _ (refused never) = absurd (never p a)
+
+-- and one that is not, to no program
+pub refused_only : (text : List ℕ) → ((p : Project) → IsAccepted text p → ⊥) → (other : Result) → Made (Some text) other → other ≡ NotYet
+refused_only text never _ (accepted {p} a) = absurd (never p a)
+refused_only text never _ (refused n) = refl
 
 -- where there is no text there is one result
 over_limit_only : (other : Result) → Made None other → other ≡ NotYet
-over_limit_only other too_long = refl
+over_limit_only _ too_long = refl
 
 pub same_made : (text : Option (List ℕ)) (r s : Result) → Made text r → Made text s → r ≡ s
-same_made _ _ s (accepted {text} {body} h) k = sym (accepted_only text body h s k)
-same_made _ _ s (refused {text} never) k = sym (bad_only text never s k)
+same_made _ _ s (accepted {text} {p} h) k = sym (accepted_only text p h s k)
+same_made _ _ s (refused {text} never) k = sym (refused_only text never s k)
 same_made _ _ s too_long k = sym (over_limit_only s k)

@@ -1,5 +1,3 @@
-pub mod Stage
 pub mod Made
+pub mod Steps
 pub mod View
-pub mod Reading
-pub mod Argument

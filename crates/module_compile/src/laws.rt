@@ -3,22 +3,24 @@
 ghost use Rattle.std.specs.Prelude.{◌≡◌, ℕ, List, [], true, Option};
 ghost use Rattle.wire_value.specs.Wire.{Wire};
 ghost use Rattle.runs.specs.Trace.{SameRun, IsRuled, IsSafe};
-ghost use Rattle.elm_canon.specs.Tree.{Expr};
+ghost use Rattle.elm_canon.specs.Tree.{Project};
 ghost use Rattle.elm_canon.specs.Run.{SourceRun};
+ghost use Rattle.elm_type.specs.Typing.{IsTyped};
 ghost use Rattle.js_tree.specs.Run.{JsRun};
 ghost use Rattle.js_tree.specs.Subset.{in_subset};
 ghost use Rattle.js_emit.specs.Emit.{Emit};
 ghost use Rattle.js_emit.specs.Scoped.{IsScoped};
 ghost use Rattle.module_compile.specs.Made.{IsAccepted, Made, Result};
-ghost use Rattle.module_compile.specs.Stage.{worker_project};
 
-/// The program of an accepted text: each of its names is bound, its JavaScript can be written, its runs never end where
-/// no rule applies, and where none of them ends with a number that is not exact, its JavaScript runs as it does.
+/// The program of an accepted text: each of its names is bound, it has types, its JavaScript can be written, its runs
+/// never end where no rule applies, and where none of them ends with a number that is not exact, its JavaScript runs as
+/// it does.
 pub fn accepted_law()
-    ensures scoped { (text : List ℕ) (body : Expr) → IsAccepted text body → IsScoped (worker_project body) }
-    ensures subset { (text : List ℕ) (body : Expr) → IsAccepted text body → in_subset (Emit (worker_project body)) ≡ true }
-    ensures ruled { (text : List ℕ) (body : Expr) → IsAccepted text body → (flags : Wire) (n : ℕ) → IsRuled (SourceRun (worker_project body) flags [] n) }
-    ensures meaning { (text : List ℕ) (body : Expr) → IsAccepted text body → (flags : Wire) → ((n : ℕ) → IsSafe (SourceRun (worker_project body) flags [] n)) → SameRun (SourceRun (worker_project body) flags []) (JsRun (Emit (worker_project body)) flags []) }
+    ensures scoped { (text : List ℕ) (p : Project) → IsAccepted text p → IsScoped p }
+    ensures typed { (text : List ℕ) (p : Project) → IsAccepted text p → IsTyped p }
+    ensures subset { (text : List ℕ) (p : Project) → IsAccepted text p → in_subset (Emit p) ≡ true }
+    ensures ruled { (text : List ℕ) (p : Project) → IsAccepted text p → (flags : Wire) (n : ℕ) → IsRuled (SourceRun p flags [] n) }
+    ensures meaning { (text : List ℕ) (p : Project) → IsAccepted text p → (flags : Wire) → ((n : ℕ) → IsSafe (SourceRun p flags [] n)) → SameRun (SourceRun p flags []) (JsRun (Emit p) flags []) }
 {}
 
 /// A text comes to at most one result.

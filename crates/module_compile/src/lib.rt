@@ -2,8 +2,6 @@
 #![tactic(auto)]
 
 pub mod laws;
-mod parser;
 pub mod phases;
-mod resolve;
 
 pub use phases::{Made, compile};

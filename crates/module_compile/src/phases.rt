@@ -1,14 +1,19 @@
 //! What a module's text comes to, phase by phase.
 
-ghost use Rattle.std.specs.Prelude.{◌≡◌, ◌≤◌, length, Some, IfOk};
+ghost use Rattle.std.specs.Prelude.{◌≡◌, ◌≤◌, length, Some, IfOk, map};
+ghost use Rattle.elm_lexer.specs.View.{token_view};
 ghost use Rattle.module_compile.specs.Made.{Made as IsMade, Result as PlainResult};
+ghost use Rattle.module_compile.specs.Steps.{IsBuiltOf};
 ghost use Rattle.module_compile.specs.View.{made_view, HasExactLiterals};
 
-use crate::parser::{ParseError, parse_module};
-use crate::resolve::resolve;
 use elm_canon::tree::Project;
-use elm_lexer::{LexError, tokens};
+use elm_lexer::{LexError, Token, tokens};
+use elm_parser::parse_module;
+use expr_parser::ParseError;
+use module_items::module_items;
+use program_link::link::link;
 use std::alloc::{AllocError, Global};
+use type_check::check::are_typed;
 
 /// What a module comes to.
 #[derive(Debug, Drop)]
@@ -27,14 +32,31 @@ pub fn compile(alloc: Global, text: &[u8]) -> Result<Made, AllocError>
     ensures only { IfOk result (λ made. (other : PlainResult) → IsMade (Some text.now) other → other ≡ made_view made) }
     ensures exact { IfOk result (λ made. HasExactLiterals (made_view made)) }
 {
-    let tokens = match tokens(alloc, text) {
-        Ok(tokens) => tokens,
-        Err(LexError::NoMemory) => return Err(AllocError),
-        Err(LexError::NoTokens) => return Ok(Made::NotYet),
+    match tokens(alloc, text) {
+        Ok(tokens) => build(alloc, &tokens),
+        Err(LexError::NoMemory) => Err(AllocError),
+        Err(LexError::NoTokens) => Ok(Made::NotYet),
+    }
+}
+
+/// What the tokens of a module come to.
+fn build(alloc: Global, tokens: &[Token]) -> Result<Made, AllocError>
+    requires { length tokens.now ≤ 4194304 }
+    ensures { IfOk result (λ made. IsBuiltOf (map token_view tokens.now) (made_view made)) }
+{
+    let tree = match parse_module(alloc, tokens) {
+        Ok(tree) => tree,
+        Err(ParseError::NoMemory) => return Err(AllocError),
+        Err(ParseError::NotAccepted) => return Ok(Made::NotYet),
     };
-    match parse_module(alloc, &tokens) {
-        Ok(argument) => Ok(Made::Good(resolve(alloc, &argument)?)),
-        Err(ParseError::NoMemory) => Err(AllocError),
-        Err(ParseError::NotAccepted) => Ok(Made::NotYet),
+    let Some(items) = module_items(alloc, &tree)? else {
+        return Ok(Made::NotYet);
+    };
+    if !are_typed(alloc, &items)? {
+        return Ok(Made::NotYet);
+    }
+    match link(alloc, items)? {
+        Some(project) => Ok(Made::Good(project)),
+        None => Ok(Made::NotYet),
     }
 }

@@ -1,6 +1,6 @@
 //! The output of the example's program, round the JavaScript of the number that it sends.
 
-/// What stands before the number.
+/// What stands before the line of `main`.
 pub const FRONT: &[u8] = br##"(function(scope){"use strict";
 const _crash=t=>{throw new Error(t);};
 const _quot=(a,b)=>(a/b)|0;
@@ -61,9 +61,13 @@ const Platform$Cmd$none={"$":1,"a0":{"$":0}};
 const Platform$Sub$none={"$":1,"a0":{"$":0}};
 const Platform$worker=($$0=>{return {"$":0,"a0":$$0};});
 const Main$out=($$0=>{return {"$":0,"a0":"out","a1":_eSame()($$0)};});
-const Main$main=Platform$worker({"init":($$0=>{return {"$":0,"a0":0,"a1":Main$out("##;
+"##;
 
-/// What stands behind it.
+/// The line of `main` up to the number.
+pub const MAIN: &[u8] =
+    br##"const Main$main=Platform$worker({"init":($$0=>{return {"$":0,"a0":0,"a1":Main$out("##;
+
+/// What stands behind the number.
 pub const BACK: &[u8] =
     br##")};}),"update":($$1=>{return ($m=>{return {"$":0,"a0":$m,"a1":Platform$Cmd$none};});}),"subscriptions":($$2=>{return Platform$Sub$none;})});
 const _main={"name":"Main","program":Main$main,"flags":_dAny(),"ins":{},"outs":{"out":0}};

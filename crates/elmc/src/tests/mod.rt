@@ -1,6 +1,7 @@
 //! The program's commands over files and sinks in memory.
 
 mod commands;
+mod definitions;
 mod expected;
 mod failures;
 mod texts;
@@ -12,12 +13,15 @@ use std::alloc::{AllocError, Global};
 use std::sync::Wait;
 use std::thread::Threads;
 
-/// The module of the example, up to the number that it sends.
+/// The header of the example's module, and its port.
 const MODULE_FRONT: &str = r#"port module Main exposing (main)
 
 port out : Int -> Cmd msg
 
-main : Program () () ()
+"#;
+
+/// Its `main`, up to the number that it sends.
+const MODULE_MAIN: &str = r#"main : Program () () ()
 main =
     Platform.worker
         { init = \_ -> ( (), out "#;
@@ -97,15 +101,35 @@ fn owned(alloc: Global, words: &[&str]) -> Result<Vec<String>, AllocError> {
 
 /// The text of the example's module with another argument.
 fn module(alloc: Global, argument: &str) -> Result<String, AllocError> {
+    module_with(alloc, "", argument, "")
+}
+
+/// The same with definitions before `main` and behind it.
+fn module_with(
+    alloc: Global,
+    before: &str,
+    argument: &str,
+    behind: &str,
+) -> Result<String, AllocError> {
     let mut text = String::from_str(alloc, MODULE_FRONT)?;
+    text.push_str(before)?;
+    text.push_str(MODULE_MAIN)?;
     text.push_str(argument)?;
     text.push_str(MODULE_BACK)?;
+    text.push_str(behind)?;
     Ok(text)
 }
 
 /// The output for the example's module with another argument, of which this is the JavaScript.
 fn output(alloc: Global, argument: &str) -> Result<Vec<u8>, AllocError> {
+    output_with(alloc, "", argument)
+}
+
+/// The same with the lines of definitions before that of `main`.
+fn output_with(alloc: Global, lines: &str, argument: &str) -> Result<Vec<u8>, AllocError> {
     let mut text = Vec::from_slice(alloc, expected::FRONT)?;
+    text.extend_from_slice(lines.as_bytes())?;
+    text.extend_from_slice(expected::MAIN)?;
     text.extend_from_slice(argument.as_bytes())?;
     text.extend_from_slice(expected::BACK)?;
     Ok(text)

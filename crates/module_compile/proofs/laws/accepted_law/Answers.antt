@@ -1,8 +1,11 @@
-use Rattle.module_compile.proofs.Accepted.{accepted_scoped, accepted_subset, accepted_ruled, accepted_meaning}
+use Rattle.module_compile.proofs.Accepted.{accepted_scoped, accepted_typed, accepted_subset, accepted_ruled, accepted_meaning}
 use Rattle.module_compile.proofs.laws.accepted_law.Goals as goal
 
 pub returns-clause-scoped : goal.returns-clause-scoped
 returns-clause-scoped c = accepted_scoped
+
+pub returns-clause-typed : goal.returns-clause-typed
+returns-clause-typed c = accepted_typed
 
 pub returns-clause-subset : goal.returns-clause-subset
 returns-clause-subset c = accepted_subset

@@ -1,40 +1,38 @@
-use Rattle.std.proofs.Common.{◌≡◌, List, Some, map, refl, sym, subst}
+use Rattle.std.proofs.Common.{◌≡◌, ◌≤◌, length, map, Some, sym, subst, arith}
+use Rattle.std.proofs.lemmas.List.{length-map}
 use Rattle.elm_lexer.specs.View.{token_view}
-use Rattle.elm_tree.specs.View.{expr_view}
-use Rattle.elm_tree.proofs.Resolved.{one_meaning}
-use Rattle.elm_canon.specs.View.{project_view}
-use Rattle.module_compile.specs.Stage.{worker_body, worker_scope}
-use Rattle.module_compile.specs.Made.{refused}
-use Rattle.module_compile.proofs.Results.{IsCutInto, IsReadAs, is_good, good_only, no_tokens, no_module, bad_only}
-use Rattle.module_compile.proofs.Accepted.{good_exact}
+use Rattle.text_laws.proofs.Few.{tokens_few}
+use Rattle.module_compile.specs.Made.{refused, Made as IsMade, Result as PlainResult}
+use Rattle.module_compile.specs.Steps.{IsBuiltOf}
+use Rattle.module_compile.specs.View.{made_view, HasExactLiterals}
+use Rattle.module_compile.proofs.Oks.{of_ok}
+use Rattle.module_compile.proofs.Results.{IsCutInto, is_made, made_only, no_tokens}
+use Rattle.module_compile.proofs.Accepted.{made_exact}
 use Rattle.module_compile.proofs.phases.compile.Goals as goal
+
+pub build-requires : goal.build-requires
+build-requires c =
+    let cut : IsCutInto c.args.text.now (map token_view c.deref.result.now) = subst (λ xs. IsCutInto c.args.text.now (map token_view xs)) (sym c.deref.ensures.value) (record { found = c.in-Ok.ensures.found; only = c.in-Ok.ensures.only }) in
+    let few : length (map token_view c.deref.result.now) ≤ length c.args.text.now = tokens_few c.args.text.now (map token_view c.deref.result.now) cut.found in
+    let wide : length c.args.text.now ≤ 4194304 = c.requires in
+    omega (arith, length-map c.deref.result.now token_view)
+
+pub returns-in-Ok-clause-made : goal.returns-in-Ok-clause-made
+returns-in-Ok-clause-made c =
+    let cut : IsCutInto c.args.text.now (map token_view c.deref.result.now) = subst (λ xs. IsCutInto c.args.text.now (map token_view xs)) (sym c.deref.ensures.value) (record { found = c.in-Ok.ensures.found; only = c.in-Ok.ensures.only }) in
+    of_ok (λ made. IsBuiltOf (map token_view c.deref.result.now) (made_view made)) (λ made. IsMade (Some c.args.text.now) (made_view made)) c.build.result
+    (λ made b. is_made c.args.text.now (map token_view c.deref.result.now) (made_view made) cut b) c.build.ensures
+
+pub returns-in-Ok-clause-only : goal.returns-in-Ok-clause-only
+returns-in-Ok-clause-only c =
+    let cut : IsCutInto c.args.text.now (map token_view c.deref.result.now) = subst (λ xs. IsCutInto c.args.text.now (map token_view xs)) (sym c.deref.ensures.value) (record { found = c.in-Ok.ensures.found; only = c.in-Ok.ensures.only }) in
+    of_ok (λ made. IsBuiltOf (map token_view c.deref.result.now) (made_view made)) (λ made. (other : PlainResult) → IsMade (Some c.args.text.now) other → other ≡ made_view made) c.build.result
+    (λ made b. made_only c.args.text.now (map token_view c.deref.result.now) (made_view made) cut b) c.build.ensures
+
+pub returns-in-Ok-clause-exact : goal.returns-in-Ok-clause-exact
+returns-in-Ok-clause-exact c =
+    of_ok (λ made. IsMade (Some c.args.text.now) (made_view made)) (λ made. HasExactLiterals (made_view made)) c.build.result
+    (λ made m. made_exact (Some c.args.text.now) (made_view made) m) (returns-in-Ok-clause-made c)
 
 pub returns-in-Err-NoTokens-clause-made : goal.returns-in-Err-NoTokens-clause-made
 returns-in-Err-NoTokens-clause-made c = refused (no_tokens c.args.text.now ((c.in-Err-NoTokens.ensures).none c.in-Err-NoTokens.field-0-is))
-
-pub returns-in-Ok-parse_module-clause-made : goal.returns-in-Ok-parse_module-clause-made
-returns-in-Ok-parse_module-clause-made c =
-    let cut : IsCutInto c.args.text.now (map token_view c.deref.result.now) = subst (λ xs. IsCutInto c.args.text.now (map token_view xs)) (sym c.deref.ensures.value) (record { found = c.in-Ok.ensures.found; only = c.in-Ok.ensures.only }) in
-    let read : IsReadAs (map token_view c.deref.result.now) (expr_view c.in-Ok-parse_module.argument) = record { tree = c.in-Ok-parse_module.ensures.tree; admitted = c.in-Ok-parse_module.ensures.admitted; within = c.in-Ok-parse_module.ensures.within; only = c.in-Ok-parse_module.ensures.only } in
-    let means = c.in_ok-resolve-in-Ok-parse_module.ensures in
-    is_good c.args.text.now (map token_view c.deref.result.now) (expr_view c.in-Ok-parse_module.argument) means.0 (project_view c.in_ok-resolve-in-Ok-parse_module.field-0) cut read means.1 means.2
-
-pub returns-in-Ok-parse_module-clause-only : goal.returns-in-Ok-parse_module-clause-only
-returns-in-Ok-parse_module-clause-only c =
-    let cut : IsCutInto c.args.text.now (map token_view c.deref.result.now) = subst (λ xs. IsCutInto c.args.text.now (map token_view xs)) (sym c.deref.ensures.value) (record { found = c.in-Ok.ensures.found; only = c.in-Ok.ensures.only }) in
-    let read : IsReadAs (map token_view c.deref.result.now) (expr_view c.in-Ok-parse_module.argument) = record { tree = c.in-Ok-parse_module.ensures.tree; admitted = c.in-Ok-parse_module.ensures.admitted; within = c.in-Ok-parse_module.ensures.within; only = c.in-Ok-parse_module.ensures.only } in
-    let means = c.in_ok-resolve-in-Ok-parse_module.ensures in
-    good_only c.args.text.now (map token_view c.deref.result.now) (expr_view c.in-Ok-parse_module.argument) means.0 (project_view c.in_ok-resolve-in-Ok-parse_module.field-0) cut read means.1 (λ other m. one_meaning (worker_body (expr_view c.in-Ok-parse_module.argument)) worker_scope other means.0 m means.1) means.2
-
-pub returns-in-Ok-parse_module-clause-exact : goal.returns-in-Ok-parse_module-clause-exact
-returns-in-Ok-parse_module-clause-exact c = good_exact _ _ (returns-in-Ok-parse_module-clause-made c)
-
-pub returns-clause-made : goal.returns-clause-made
-returns-clause-made c =
-    let cut : IsCutInto c.args.text.now (map token_view c.deref.result.now) = subst (λ xs. IsCutInto c.args.text.now (map token_view xs)) (sym c.deref.ensures.value) (record { found = c.in-Ok.ensures.found; only = c.in-Ok.ensures.only }) in
-    refused (no_module c.args.text.now (map token_view c.deref.result.now) cut ((c.in-Err-NotAccepted.ensures).none c.in-Err-NotAccepted.field-0-is))
-
-pub returns-clause-only : goal.returns-clause-only
-returns-clause-only c =
-    let cut : IsCutInto c.args.text.now (map token_view c.deref.result.now) = subst (λ xs. IsCutInto c.args.text.now (map token_view xs)) (sym c.deref.ensures.value) (record { found = c.in-Ok.ensures.found; only = c.in-Ok.ensures.only }) in
-    bad_only c.args.text.now (no_module c.args.text.now (map token_view c.deref.result.now) cut ((c.in-Err-NotAccepted.ensures).none c.in-Err-NotAccepted.field-0-is))

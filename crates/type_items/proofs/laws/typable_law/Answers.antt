@@ -1,0 +1,9 @@
+use Rattle.type_items.proofs.Solved.{has_solution}
+use Rattle.type_items.proofs.Typed.{solved_typed}
+use Rattle.type_items.proofs.laws.typable_law.Goals as goal
+
+pub returns-clause-solvable : goal.returns-clause-solvable
+returns-clause-solvable c = has_solution
+
+pub returns-clause-typed : goal.returns-clause-typed
+returns-clause-typed c = solved_typed

@@ -1,0 +1,4 @@
+//! What the parts of an expression ask of their types.
+#![tactic(auto)]
+
+pub mod laws;
