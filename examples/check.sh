@@ -1,7 +1,7 @@
 #!/usr/bin/env bash
-# Builds examples/answer, runs its program in node, and compares what it prints. Status 0: as wanted, or no node.
+# Builds each example, runs its program in node, and compares what it prints. Status 0: as wanted, or no node.
 set -u
-cd "$(dirname "$0")/answer" || exit 1
+cd "$(dirname "$0")" || exit 1
 
 same() { # WHAT WANTED SEEN
     if [ "$2" != "$3" ]; then
@@ -10,16 +10,23 @@ same() { # WHAT WANTED SEEN
     fi
 }
 
-rm -f out.js
-line="$(../../elmc make src/Main.elm --output=out.js)"
-same "status of elmc" 0 "$?"
-same "output of elmc" "compiled to out.js, modules: 1" "$line"
+check() { # EXAMPLE LINE
+    cd "$1" || exit 1
+    rm -f out.js
+    local line
+    line="$(../../elmc make src/Main.elm --output=out.js)"
+    same "$1: status of elmc" 0 "$?"
+    same "$1: output of elmc" "compiled to out.js, modules: 1" "$line"
+    if command -v node >/dev/null; then
+        line="$(node run.js)"
+        same "$1: status of node" 0 "$?"
+        same "$1: output of node" "$2" "$line"
+        echo "examples/$1: built and run, as wanted"
+    else
+        echo "examples/$1: built, and not run: there is no node here"
+    fi
+    cd ..
+}
 
-if ! command -v node >/dev/null; then
-    echo "examples/answer: built, and not run: there is no node here"
-    exit 0
-fi
-line="$(node run.js)"
-same "status of node" 0 "$?"
-same "output of node" "out 42" "$line"
-echo "examples/answer: built and run, as wanted"
+check answer "out 42"
+check parcel "price 810"
