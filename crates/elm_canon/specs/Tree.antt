@@ -54,10 +54,12 @@ pub data Defs : Type 0 where
 -- the types that cross an outgoing port
 pub data Payload : Type 0 where
   IntPayload : Payload
+  UnitPayload : Payload
 
--- the types of flags: () takes any value
+-- the types of flags: () takes any value; Int
 pub data Flags : Type 0 where
   AnyFlags : Flags
+  IntFlags : Flags
 
 -- what is declared without a body: the constructor of this number, with one field, as a function; the batch of no commands or
 -- subscriptions; an outgoing port

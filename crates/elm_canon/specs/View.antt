@@ -64,9 +64,11 @@ defs_of (d ∷ ds) = plain.MoreDef (ref_view d.name) (pattern_view d.parameter) 
 
 abbrev pub payload_view : payload.Payload → plain.Payload
 payload_view payload.Payload.Int = plain.IntPayload
+payload_view payload.Payload.Unit = plain.UnitPayload
 
 abbrev pub flags_view : flags.Flags → plain.Flags
 flags_view flags.Flags.Any = plain.AnyFlags
+flags_view flags.Flags.Int = plain.IntFlags
 
 abbrev pub known_view : known.Known → plain.Known
 known_view (known.Known.Wrapper k) = plain.Wrapper k

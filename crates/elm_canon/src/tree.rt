@@ -64,6 +64,8 @@ pub struct Def {
 #[derive(Clone, Copy, Debug, PartialEq, Eq)]
 pub enum Payload {
     Int,
+    /// `()`
+    Unit,
 }
 
 /// The type of the flags.
@@ -71,6 +73,7 @@ pub enum Payload {
 pub enum Flags {
     /// `()`, which takes any value.
     Any,
+    Int,
 }
 
 /// What is declared without a body.

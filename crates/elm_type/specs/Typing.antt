@@ -1,7 +1,7 @@
 -- HasType: which types an expression has; and IsTyped: which programs have types. (Elm guide: types; elm/core 1.0.5: Platform, Platform.Cmd,
 -- Platform.Sub.)
 use Rattle.std.specs.Prelude.{◌≡◌, ◌⊎◌, ℕ, List, [], ◌∷◌, Option, Some, None, if◌then◌else◌, codes}
-use Rattle.elm_canon.specs.Tree.{Ref, Local, Top, same_ref, Pattern, Named, Anything, Operator, Add, Expr, Int, Var, Lambda, Apply, Binary, UnitOf, Pair, Triple, Record, Exprs, NoExpr, MoreExpr, Fields, NoField, MoreField, Defs, NoDef, MoreDef, Payload, IntPayload, Flags, AnyFlags, Known, Wrapper, EmptyBatch, OutPort, Group, Functions, Constant, Given, Project}
+use Rattle.elm_canon.specs.Tree.{Ref, Local, Top, same_ref, Pattern, Named, Anything, Operator, Add, Expr, Int, Var, Lambda, Apply, Binary, UnitOf, Pair, Triple, Record, Exprs, NoExpr, MoreExpr, Fields, NoField, MoreField, Defs, NoDef, MoreDef, Payload, IntPayload, UnitPayload, Flags, AnyFlags, IntFlags, Known, Wrapper, EmptyBatch, OutPort, Group, Functions, Constant, Given, Project}
 use Rattle.elm_type.specs.Types.{ElmType, Variable, FunctionType, UnitType, PairType, TripleType, RecordType, FieldTypes, NoFieldType, instantiate, Scheme, One, Every, IsInstance, field_type, insert_field, int_type, command_type, subscription_type, program_type, worker_record}
 
 -- the names in scope, the innermost first
@@ -63,8 +63,9 @@ MembersHave _ _ _ = ⊥
 -- the type of what crosses a port
 abbrev pub payload_type : Payload → ElmType
 payload_type IntPayload = int_type
+payload_type UnitPayload = UnitType
 
--- what a port is, as a function: Int -> Cmd msg
+-- what a port is, as a function: from its payload to Cmd msg
 abbrev pub port_type : Payload → ElmType
 port_type p = FunctionType (payload_type p) (command_type (Variable 0))
 
@@ -105,6 +106,7 @@ HaveTypes context (Given x k ∷ gs) last = (t : ElmType) × KnownType x k t × 
 -- the type of the flags
 abbrev pub flags_type : Flags → ElmType
 flags_type AnyFlags = UnitType
+flags_type IntFlags = int_type
 
 -- a program has types: its groups have, and then its `main` is a program
 abbrev pub IsTyped : Project → Type 0

@@ -2,10 +2,10 @@
 -- order in which they are printed, and each function says from which number on.
 -- It speaks of names and numbers alone, and of no value.
 use Rattle.std.specs.Prelude.{ℕ, zero, suc, ◌+◌, pos, List, [], ◌∷◌, ◌++◌, Bool, true, false, if◌then◌else◌, nat_lt, codes, decimal}
-use Rattle.elm_canon.specs.Tree.{Ref, Pattern, Named, Anything, Operator, Add, Expr, Int, Var, Lambda, Apply, Binary, UnitOf, Pair, Triple, Record, Exprs, NoExpr, MoreExpr, Fields, NoField, MoreField, Defs, NoDef, MoreDef, Payload, IntPayload, Flags, AnyFlags, Known, Wrapper, EmptyBatch, OutPort, Group, Functions, Constant, Given, Project}
+use Rattle.elm_canon.specs.Tree.{Ref, Pattern, Named, Anything, Operator, Add, Expr, Int, Var, Lambda, Apply, Binary, UnitOf, Pair, Triple, Record, Exprs, NoExpr, MoreExpr, Fields, NoField, MoreField, Defs, NoDef, MoreDef, Payload, IntPayload, UnitPayload, Flags, AnyFlags, IntFlags, Known, Wrapper, EmptyBatch, OutPort, Group, Functions, Constant, Given, Project}
 use Rattle.elm_canon.specs.Tree as source
 use Rattle.elm_canon.specs.Run.{name_of}
-use Rattle.js_tree.specs.Tree.{Name, Top, Local, Made, Plus, EncodeSame, DecodeAny, Js, JInt, JText, JVar, JArrow, JCall, JBinary, JObject, JHelper, JsList, NoJs, Stmts, Const, Return, Program}
+use Rattle.js_tree.specs.Tree.{Name, Top, Local, Made, Plus, EncodeSame, EncodeNull, DecodeAny, DecodeInt, Js, JInt, JText, JVar, JArrow, JCall, JBinary, JObject, JHelper, JsList, NoJs, Stmts, Const, Return, Program}
 use Rattle.js_tree.specs.Tree as js
 
 -- the name of what a name of the source means
@@ -89,9 +89,11 @@ abbrev mutual
 
 abbrev pub encoder : Payload → Js
 encoder IntPayload = JHelper EncodeSame NoJs
+encoder UnitPayload = JHelper EncodeNull NoJs
 
 abbrev pub flags_decoder : Flags → Js
 flags_decoder AnyFlags = JHelper DecodeAny NoJs
+flags_decoder IntFlags = JHelper DecodeInt NoJs
 
 -- the constant of what has no body
 abbrev pub emit_known : Ref → Known → Js

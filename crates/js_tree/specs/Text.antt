@@ -2,7 +2,7 @@
 -- blanks.) It is the fixed front, a line for each constant, the line of `_main`, and the fixed end.
 use Rattle.std.specs.Prelude.{◌≡◌, ℕ, zero, suc, ℤ, pos, negsuc, ◌+◌, ◌/◌, ◌%◌, List, [], ◌∷◌, ◌++◌, Bool, if◌then◌else◌, ◌&&◌, ◌||◌, ◌==◌, nat_le, nat_lt, codes, decimal}
 use Rattle.js_tree.specs.declared.runtime.TheConstants.{HEAD, TAIL}
-use Rattle.js_tree.specs.Tree.{Name, Top, Local, Made, Operator, Plus, Helper, EncodeSame, DecodeAny, Js, JInt, JText, JVar, JArrow, JCall, JBinary, JObject, JHelper, JsList, NoJs, MoreJs, Fields, NoField, MoreField, Stmts, Const, Return, Program}
+use Rattle.js_tree.specs.Tree.{Name, Top, Local, Made, Operator, Plus, Helper, EncodeSame, EncodeNull, DecodeAny, DecodeInt, Js, JInt, JText, JVar, JArrow, JCall, JBinary, JObject, JHelper, JsList, NoJs, MoreJs, Fields, NoField, MoreField, Stmts, Const, Return, Program}
 
 -- a digit of base 16, upper case
 abbrev pub hex_digit : ℕ → ℕ
@@ -53,7 +53,9 @@ operator_text Plus = codes "+"
 
 abbrev pub helper_text : Helper → List ℕ
 helper_text EncodeSame = codes "_eSame"
+helper_text EncodeNull = codes "_eNull"
 helper_text DecodeAny = codes "_dAny"
+helper_text DecodeInt = codes "_dInt"
 
 abbrev mutual
   pub js_text : Js → List ℕ

@@ -19,10 +19,13 @@ same_name _ _ = false
 pub data Operator : Type 0 where
   Plus : Operator
 
--- the functions of the fixed text that a body calls by name: an encoder that gives its value back, a decoder that takes any flags
+-- the functions of the fixed text that a body calls by name: the encoder that gives its value back, and that of (); the decoder that
+-- takes any flags, and that of Int
 pub data Helper : Type 0 where
   EncodeSame : Helper
+  EncodeNull : Helper
   DecodeAny : Helper
+  DecodeInt : Helper
 
 mutual
   pub data Js : Type 0 where

@@ -24,8 +24,12 @@ pub enum Operator {
 pub enum Helper {
     /// `_eSame`: makes an encoder that gives its value back.
     EncodeSame,
+    /// `_eNull`: makes an encoder that gives null.
+    EncodeNull,
     /// `_dAny`: makes a decoder that takes any flags.
     DecodeAny,
+    /// `_dInt`: makes a decoder that takes whole numbers that are exact.
+    DecodeInt,
 }
 
 /// An expression.
