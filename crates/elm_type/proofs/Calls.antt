@@ -3,14 +3,14 @@ use Rattle.std.proofs.Common.{◌≡◌, inl, ℕ, zero, suc, ℤ, Bool, true, f
 use Rattle.std.specs.Prelude.{if◌then◌else◌, ◌+ℤ◌}
 use Rattle.wire_value.specs.Exact.{is_exact}
 use Rattle.runs.specs.Ends.{End, Val, Unsafe}
-use Rattle.elm_canon.specs.Tree.{Ref, same_ref, Pattern, Named, Anything, Operator, Add, Expr, Int, Var, Lambda, Apply, Binary, UnitOf, Pair, Triple, Record, Exprs, NoExpr, MoreExpr, Fields, NoField, MoreField, Defs, NoDef, MoreDef, Payload, IntPayload}
+use Rattle.elm_canon.specs.Tree.{Ref, same_ref, Pattern, Named, Anything, Operator, Add, Expr, Int, Var, Lambda, Apply, Binary, UnitOf, Pair, Triple, Record, Exprs, NoExpr, MoreExpr, Fields, NoField, MoreField, Defs, NoDef, MoreDef, Payload, IntPayload, UnitPayload}
 use Rattle.elm_canon.specs.Values.{Value, IntV, UnitV, TagV, RecordV, CloV, WrapperV, PortV, SendV, BatchV, Env, Nil, Bind, BindGroup, member, lookup, bind_pattern}
 use Rattle.elm_canon.specs.Eval.{operate, Call, eval_with, apply_with, fields_with, unshape, enter, call_at}
 use Rattle.elm_type.specs.Types.{ElmType, FunctionType, NoType, MoreTypes, FieldTypes, Scheme, Every, IsInstance, int_type, command_type, program_type, worker_record}
 use Rattle.elm_type.specs.Typing.{Context, scheme_of, with_parameter, operand_type, HasType, Takes, HaveFieldTypes, with_members, MembersHave, payload_type}
 use Rattle.elm_type.proofs.Values.{EndsWell, then_well, ValueHas, FieldValuesHave, EnvHas}
 use Rattle.elm_type.proofs.Fields.{field_more}
-use Rattle.elm_type.proofs.Forms.{differ, made, batched, is_number}
+use Rattle.elm_type.proofs.Forms.{differ, made, batched, is_number, is_unit}
 
 -- a name, where the first one is looked at
 first_bound : (b : Bool) (v : Value) (o : End Value) (here scheme : Scheme) (rest : Option Scheme) (t : ElmType) → ((u : ElmType) → IsInstance here u → ValueHas v u) → (rest ≡ Some scheme → EndsWell (λ w. ValueHas w t) o) → (if b then Some here else rest) ≡ Some scheme → IsInstance scheme t → EndsWell (λ w. ValueHas w t) (if b then Val v else o)
@@ -110,6 +110,7 @@ sent_well : (p : Payload) (v : Value) → ValueHas v (payload_type p) → EndsWe
 sent_well IntPayload v h =
     let n = is_number v h in
     subst (λ x. EndsWell (λ w. Unit {0}) (unshape IntPayload x)) (sym n.1) tt
+sent_well UnitPayload v h = subst (λ x. EndsWell (λ w. Unit {0}) (unshape UnitPayload x)) (sym (is_unit v h)) tt
 
 -- a value of a function's type can be called
 entered : (call : Call) → CallsWell call → CallsWell (λ f v. enter (eval_with call) f v)

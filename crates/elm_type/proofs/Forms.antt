@@ -4,7 +4,7 @@ use Rattle.std.specs.Prelude.{codes, ◌||◌}
 use Rattle.std.specs.Str.{bytes_eq}
 use Rattle.elm_canon.specs.Values.{Value, IntV, UnitV, TagV, RecordV, CloV, WrapperV, PortV, SendV, BatchV, Values, NoValue, MoreValue, FieldValues}
 use Rattle.elm_canon.specs.Eval.{pair_of}
-use Rattle.elm_type.specs.Types.{ElmType, NamedType, TripleType, int_type, worker_fields, worker_record, PairType, RecordType, ElmTypes, NoType, MoreTypes, FieldTypes, program_type}
+use Rattle.elm_type.specs.Types.{ElmType, NamedType, TripleType, int_type, UnitType, worker_fields, worker_record, PairType, RecordType, ElmTypes, NoType, MoreTypes, FieldTypes, program_type}
 use Rattle.elm_type.proofs.Values.{list_type, Makes, IsBatched, ValueHas, ValuesHave, FieldValuesHave}
 
 -- a test that holds and fails
@@ -45,6 +45,18 @@ is_number (WrapperV k) h = absurd (let e = h.4 in cc)
 is_number (PortV port p) h = absurd (let e = h.1 in cc)
 is_number (SendV port w) h = absurd (let e = h.1 in cc)
 is_number (BatchV list) h = absurd (differ (batched int_type h.1))
+
+-- a value of the type () is ()
+pub is_unit : (v : Value) → ValueHas v UnitType → v ≡ UnitV
+is_unit (IntV z) h = absurd (cc)
+is_unit UnitV h = refl
+is_unit (TagV k vs) h = absurd (differ (made k h.0 UnitType h.2))
+is_unit (RecordV fs) h = absurd (let e = h.2 in cc)
+is_unit (CloV env p e) h = absurd (let f = h.2.3 in cc)
+is_unit (WrapperV k) h = absurd (let e = h.4 in cc)
+is_unit (PortV port p) h = absurd (let e = h.1 in cc)
+is_unit (SendV port w) h = absurd (let e = h.1 in cc)
+is_unit (BatchV list) h = absurd (differ (batched UnitType h.1))
 
 -- no value, one value, and two values
 no_value : (vs : Values) → ValuesHave vs NoType → vs ≡ NoValue

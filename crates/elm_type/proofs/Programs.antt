@@ -1,15 +1,16 @@
 -- What a typed program does under its host.
-use Rattle.std.proofs.Common.{◌≡◌, inl, inr, ℕ, List, [], ◌∷◌, Some, refl, sym, ap, subst}
+use Rattle.std.proofs.Common.{◌≡◌, inl, inr, ℕ, List, [], ◌∷◌, true, false, if◌then◌else◌, Some, None, refl, sym, ap, subst}
 use Rattle.std.specs.Prelude.{codes}
-use Rattle.wire_value.specs.Wire.{Wire}
+use Rattle.wire_value.specs.Wire.{Wire, null, bool, int, text, list, object}
+use Rattle.wire_value.specs.Exact.{is_exact}
 use Rattle.runs.specs.Ends.{End, Val, Crashed, OutOfFuel, Unsafe, Stuck, with_budget}
 use Rattle.runs.specs.Trace.{Trace, Ends, Ready, IsRuled, send_all}
 use Rattle.runs.specs.Driver.{Machine, At, Start, WrongFlags, Started, metered, begin, go_on}
-use Rattle.elm_canon.specs.Tree.{Ref, Var, Flags, AnyFlags, Known, Wrapper, EmptyBatch, OutPort, IntPayload, Group, Functions, Constant, Given, Project}
-use Rattle.elm_canon.specs.Values.{Value, UnitV, TagV, BatchV, NoValue, Env, Nil, Bind, BindGroup}
+use Rattle.elm_canon.specs.Tree.{Ref, Var, Flags, AnyFlags, IntFlags, Known, Wrapper, EmptyBatch, OutPort, IntPayload, UnitPayload, Group, Functions, Constant, Given, Project}
+use Rattle.elm_canon.specs.Values.{Value, IntV, UnitV, TagV, BatchV, NoValue, Env, Nil, Bind, BindGroup}
 use Rattle.elm_canon.specs.Eval.{Call, eval_with, call_at}
 use Rattle.elm_canon.specs.Run.{known_value, main_with, stage_of, part_of, read_flags, start_with, source_nested, SourceRun}
-use Rattle.elm_type.specs.Types.{ElmType, worker_fields, Variable, FunctionType, UnitType, PairType, NoType, FieldTypes, field_type, instantiate, Every, command_type, subscription_type, program_type}
+use Rattle.elm_type.specs.Types.{ElmType, worker_fields, Variable, FunctionType, UnitType, PairType, NoType, FieldTypes, field_type, instantiate, Every, int_type, command_type, subscription_type, program_type}
 use Rattle.elm_type.specs.Typing.{Context, HasType, with_members, KnownType, HaveTypes, flags_type, IsTyped}
 use Rattle.elm_type.proofs.Values.{EndsWell, then_well, well_for_all, ValueHas, EnvHas}
 use Rattle.elm_type.proofs.Fields.{field_found}
@@ -25,6 +26,7 @@ known_has x EmptyBatch t (inr h) choice =
     subst (λ u. ValueHas (BatchV (TagV 0 NoValue)) (instantiate choice u)) (sym h.1) ((NoType, tt, (subscription_type (choice 0), refl, refl)), (choice 0, inr refl))
 known_has x (Wrapper k) t h choice = (choice 0, choice 1, choice 2, h.1, ap (λ u. instantiate choice u) h.2)
 known_has x (OutPort IntPayload) t h choice = (choice 0, ap (λ u. instantiate choice u) h)
+known_has x (OutPort UnitPayload) t h choice = (choice 0, ap (λ u. instantiate choice u) h)
 
 -- the groups in order
 pub main_well : (call : Call) → CallsWell call → (gs : List Group) (context last : Context) (env : Env) (main : Ref) (t : ElmType) → EnvHas env context → HaveTypes context gs last → HasType last (Var main) t → EndsWell (λ v. ValueHas v t) (main_with call gs main env)
@@ -62,6 +64,14 @@ read_well n v given flags model msg h g =
 
 start_well : (n : ℕ) (v : Value) (f : Flags) (w : Wire) (model msg : ElmType) → ValueHas v (program_type (flags_type f) model msg) → EndsWell (λ start. StartHas (flags_type f) model msg start) (start_with n v (read_flags f w))
 start_well n v AnyFlags w model msg h = read_well n v UnitV UnitType model msg h refl
+start_well n v IntFlags null model msg h = tt
+start_well n v IntFlags (bool b) model msg h = tt
+start_well n v IntFlags (int z) model msg h =
+    elim (is_exact z) as (λ t. EndsWell (λ start. StartHas int_type model msg start) (start_with n v (if t then Some (IntV z) else None)))
+    [ true ↦ read_well n v (IntV z) int_type model msg h refl | false ↦ tt ]
+start_well n v IntFlags (text t) model msg h = tt
+start_well n v IntFlags (list ws) model msg h = tt
+start_well n v IntFlags (object ms) model msg h = tt
 
 -- sends do not change how a run ends
 sends_ruled : (ss : List (List ℕ × Wire)) (t : Trace) → IsRuled t → IsRuled (send_all ss t)

@@ -1,16 +1,37 @@
--- What a type over Int is, as plain data.
-use Rattle.std.specs.Prelude.{List, [], ◌∷◌}
-use Rattle.elm_type.specs.Types.{ElmType, FunctionType, int_type}
-use Rattle.elm_type.specs.declared.types.IntType as types
-use Rattle.elm_type.specs.declared.types.IntType.TheOpen.{IntType-F}
+-- What a type of the program is, as plain data.
+use Rattle.std.specs.Prelude.{ℕ, List, [], ◌∷◌}
+use Rattle.elm_type.specs.Types as plain
+use Rattle.elm_type.specs.declared.types.Type as types
+use Rattle.elm_type.specs.declared.types.Type.TheOpen.{Type-F, FieldType-F}
+use Rattle.elm_type.specs.declared.types.FieldType as field
 
--- from these parameters to Int
-abbrev pub to_int : List ElmType → ElmType
-to_int [] = int_type
-to_int (t ∷ ts) = FunctionType t (to_int ts)
+abbrev pub types_of : List plain.ElmType → plain.ElmTypes
+types_of [] = plain.NoType
+types_of (t ∷ ts) = plain.MoreTypes t (types_of ts)
 
-abbrev pub type_step : IntType-F ElmType → ElmType
-type_step t = to_int t.parameters.items
+-- a field is its name with its type
+abbrev pub NamedField : Type 0
+NamedField = List ℕ × plain.ElmType
 
-abbrev pub type_view : types.IntType → ElmType
-type_view = types.fold-IntType ElmType type_step
+abbrev pub fields_of : List NamedField → plain.FieldTypes
+fields_of [] = plain.NoFieldType
+fields_of (f ∷ fs) = plain.MoreFieldTypes f.0 f.1 (fields_of fs)
+
+-- one level, with each part already seen
+abbrev pub type_step : Type-F plain.ElmType NamedField → plain.ElmType
+type_step (Type-F.Variable i) = plain.Variable i
+type_step (Type-F.Named m x ts) = plain.NamedType m x (types_of ts.items)
+type_step (Type-F.Function a b) = plain.FunctionType a.value b.value
+type_step Type-F.Unit = plain.UnitType
+type_step (Type-F.Pair a b) = plain.PairType a.value b.value
+type_step (Type-F.Triple a b c) = plain.TripleType a.value b.value c.value
+type_step (Type-F.Record fs) = plain.RecordType (fields_of fs.items)
+
+abbrev pub field_step : FieldType-F plain.ElmType NamedField → NamedField
+field_step f = (f.name, f.field_type)
+
+abbrev pub type_view : types.Type → plain.ElmType
+type_view = types.fold-Type plain.ElmType NamedField type_step field_step
+
+abbrev pub field_view : field.FieldType → NamedField
+field_view = field.fold-FieldType plain.ElmType NamedField type_step field_step
