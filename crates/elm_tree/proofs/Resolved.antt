@@ -2,9 +2,9 @@
 use Rattle.std.proofs.Common.{◌≡◌, List, ◌∷◌, ◌∙◌, sym, ap}
 use Rattle.elm_canon.specs.Tree as canon
 use Rattle.elm_canon.specs.Tree.{Operator}
-use Rattle.elm_tree.specs.Tree.{Expr, Int, Name, Qualified, UnitOf, Parens, Pair, Record, Apply, Chain, Lambda, Exprs, NoExpr, MoreExprs, Operands, NoOperand, MoreOperands, Fields, NoField, MoreFields}
+use Rattle.elm_tree.specs.Tree.{Expr, Int, Name, Qualified, UnitOf, Parens, Pair, Triple, Record, Apply, Chain, Lambda, Exprs, NoExpr, MoreExprs, Operands, NoOperand, MoreOperands, Fields, NoField, MoreFields}
 use Rattle.elm_tree.specs.Regroup.{Regroup}
-use Rattle.elm_tree.specs.Resolve.{Scope, bound_names, with_locals, lambdas, expr_of, Resolves, ResolvesAll, ResolvesOperands, ResolvesFields}
+use Rattle.elm_tree.specs.Resolve.{Scope, bound_names, with_locals, functions, expr_of, Resolves, ResolvesAll, ResolvesOperands, ResolvesFields}
 use Rattle.elm_tree.proofs.Grouped.{one_grouped}
 
 mutual
@@ -17,6 +17,11 @@ mutual
   one_meaning (Pair a b) s c d (p, q, g, h, e) (p1, q1, g1, h1, e1) =
       let i = one_meaning a s p p1 g g1 in
       let j = one_meaning b s q q1 h h1 in
+      cc
+  one_meaning (Triple a b e) s c d (p, q, r, g, h, k, f) (p1, q1, r1, g1, h1, k1, f1) =
+      let i = one_meaning a s p p1 g g1 in
+      let j = one_meaning b s q q1 h h1 in
+      let l = one_meaning e s r r1 k k1 in
       cc
   one_meaning (Record fs) s c d (gs, _, g, e) (gs1, _, g1, e1) = let i = one_fields fs s gs gs1 g g1 in cc
   one_meaning (Apply f a es) s c d (p, q, ds, g, h, i, e) (p1, q1, ds1, g1, h1, i1, e1) =
@@ -35,7 +40,7 @@ mutual
       l ∙ ap expr_of m ∙ sym l1
   one_meaning (Lambda p ps e) s c d (b, _, g, f) (b1, _, g1, f1) =
       let i = one_meaning e (with_locals (bound_names (p ∷ ps)) s) b b1 g g1 in
-      f ∙ ap (lambdas p ps) i ∙ sym f1
+      f ∙ ap (functions (p ∷ ps)) i ∙ sym f1
 
   one_list : (es : Exprs) (s : Scope) (cs ds : canon.Exprs) → ResolvesAll es s cs → ResolvesAll es s ds → cs ≡ ds
   one_list NoExpr s cs ds g h = g ∙ sym h

@@ -4,7 +4,6 @@ pub mod Words
 pub mod Spells
 pub mod Limits
 pub mod Shape
-pub mod Simple
 pub mod Regroup
 pub mod Utf16
 pub mod Begun

@@ -1,7 +1,7 @@
 -- The limits of a text: how many constructs are open at once (parentheses, braces, lambdas), and how many operators a chain has.
 use Rattle.std.specs.Prelude.{ℕ, zero, suc, ◌+◌, Bool, true, false, ◌&&◌, nat_le}
 use Rattle.std.specs.List.{list_all}
-use Rattle.elm_tree.specs.Tree.{TypeTree, TypeVariable, TypeName, UnitType, Function, TypeParens, TypeTrees, NoType, MoreTypes, Expr, Int, Name, Qualified, UnitOf, Parens, Pair, Record, Apply, Chain, Lambda, Exprs, NoExpr, MoreExprs, Operands, NoOperand, MoreOperands, Fields, NoField, MoreFields, Declaration, Port, Annotation, Definition, Module}
+use Rattle.elm_tree.specs.Tree.{TypeTree, TypeVariable, TypeName, UnitType, PairType, TripleType, RecordType, Function, TypeParens, TypeTrees, NoType, MoreTypes, FieldTypes, NoFieldType, MoreFieldTypes, Expr, Int, Name, Qualified, UnitOf, Parens, Pair, Triple, Record, Apply, Chain, Lambda, Exprs, NoExpr, MoreExprs, Operands, NoOperand, MoreOperands, Fields, NoField, MoreFields, Declaration, Port, Annotation, Definition, Module}
 
 abbrev pub count_of : Operands → ℕ
 count_of NoOperand = 0
@@ -19,6 +19,8 @@ abbrev mutual
   is_within (Parens e) (suc room) = is_within e room
   is_within (Pair a b) zero = false
   is_within (Pair a b) (suc room) = is_within a room && is_within b room
+  is_within (Triple a b c) zero = false
+  is_within (Triple a b c) (suc room) = is_within a room && (is_within b room && is_within c room)
   is_within (Record fs) zero = false
   is_within (Record fs) (suc room) = fields_within fs room
   is_within (Apply f a es) room = is_within f room && (is_within a room && all_within es room)
@@ -45,6 +47,12 @@ abbrev mutual
   type_within (TypeName t ts) room = types_within ts room
   type_within UnitType zero = false
   type_within UnitType (suc room) = true
+  type_within (PairType a b) zero = false
+  type_within (PairType a b) (suc room) = type_within a room && type_within b room
+  type_within (TripleType a b c) zero = false
+  type_within (TripleType a b c) (suc room) = type_within a room && (type_within b room && type_within c room)
+  type_within (RecordType fs) zero = false
+  type_within (RecordType fs) (suc room) = field_types_within fs room
   type_within (Function a b) room = type_within a room && type_within b room
   type_within (TypeParens t) zero = false
   type_within (TypeParens t) (suc room) = type_within t room
@@ -52,6 +60,10 @@ abbrev mutual
   pub types_within : TypeTrees → ℕ → Bool
   types_within NoType room = true
   types_within (MoreTypes t ts) room = type_within t room && types_within ts room
+
+  pub field_types_within : FieldTypes → ℕ → Bool
+  field_types_within NoFieldType room = true
+  field_types_within (MoreFieldTypes x t fs) room = type_within t room && field_types_within fs room
 
 -- at most 256 constructs are open at once
 abbrev pub declaration_within : Declaration → Bool

@@ -7,7 +7,7 @@ use Rattle.elm_canon.specs.Tree as canon
 use Rattle.elm_canon.specs.Tree.{Ref, Operator, Add}
 use Rattle.elm_tree.specs.Utf16.{units_of}
 use Rattle.elm_tree.specs.Regroup.{Tree, Leaf, Node, Regroup}
-use Rattle.elm_tree.specs.Tree.{Pattern, NamePattern, Wildcard, Expr, Int, Name, Qualified, UnitOf, Parens, Pair, Record, Apply, Chain, Lambda, Exprs, NoExpr, MoreExprs, Operands, NoOperand, MoreOperands, Fields, NoField, MoreFields}
+use Rattle.elm_tree.specs.Tree.{Pattern, NamePattern, Wildcard, Expr, Int, Name, Qualified, UnitOf, Parens, Pair, Triple, Record, Apply, Chain, Lambda, Exprs, NoExpr, MoreExprs, Operands, NoOperand, MoreOperands, Fields, NoField, MoreFields}
 
 -- what is in scope: the module, the names that it declares, and the local ones, as units
 pub record Scope : Type 0 where
@@ -59,9 +59,9 @@ pattern_meaning (NamePattern x) = canon.Named (units_of x)
 pattern_meaning Wildcard = canon.Anything
 
 -- a function of one parameter after the other
-abbrev pub lambdas : Pattern → List Pattern → canon.Expr → canon.Expr
-lambdas p [] body = canon.Lambda (pattern_meaning p) body
-lambdas p (q ∷ qs) body = canon.Lambda (pattern_meaning p) (lambdas q qs body)
+abbrev pub functions : List Pattern → canon.Expr → canon.Expr
+functions [] body = body
+functions (p ∷ ps) body = canon.Lambda (pattern_meaning p) (functions ps body)
 
 abbrev pub field_names : Fields → List (List ℕ)
 field_names NoField = []
@@ -84,13 +84,15 @@ abbrev mutual
   Resolves UnitOf s c = c ≡ canon.UnitOf
   Resolves (Parens e) s c = Resolves e s c
   Resolves (Pair a b) s c = (p : canon.Expr) × (q : canon.Expr) × Resolves a s p × Resolves b s q × (c ≡ canon.Pair p q)
+  Resolves (Triple a b d) s c =
+      (p : canon.Expr) × (q : canon.Expr) × (r : canon.Expr) × Resolves a s p × Resolves b s q × Resolves d s r × (c ≡ canon.Triple p q r)
   Resolves (Record fs) s c = (gs : canon.Fields) × (are_distinct (field_names fs) ≡ true) × ResolvesFields fs s gs × (c ≡ canon.Record gs)
   Resolves (Apply f a es) s c = (g : canon.Expr) × (b : canon.Expr) × (ds : canon.Exprs) × Resolves f s g × Resolves a s b × ResolvesAll es s ds × (c ≡ canon.Apply g (canon.MoreExpr b ds))
   Resolves (Chain a op b os) s c =
       (p : canon.Expr) × (o : Operator) × (q : canon.Expr) × (rs : List (Operator × canon.Expr)) × Resolves a s p × (row_of op operators ≡ Some o)
       × Resolves b s q × ResolvesOperands os s rs × ((t : Tree canon.Expr) × Regroup p ((o, q) ∷ rs) t × (c ≡ expr_of t))
   Resolves (Lambda p ps e) s c =
-      (d : canon.Expr) × (are_new (bound_names (p ∷ ps)) s ≡ true) × Resolves e (with_locals (bound_names (p ∷ ps)) s) d × (c ≡ lambdas p ps d)
+      (d : canon.Expr) × (are_new (bound_names (p ∷ ps)) s ≡ true) × Resolves e (with_locals (bound_names (p ∷ ps)) s) d × (c ≡ functions (p ∷ ps) d)
 
   pub ResolvesAll : Exprs → Scope → canon.Exprs → Type 0
   ResolvesAll NoExpr s ds = ds ≡ canon.NoExpr

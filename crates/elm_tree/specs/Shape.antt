@@ -2,7 +2,7 @@
 -- operands are no chains, and only the last of them may be a lambda, which reaches as far as it can; of arrows the right one is inner.
 use Rattle.std.specs.Prelude.{Bool, true, false, ◌&&◌}
 use Rattle.std.specs.List.{list_all}
-use Rattle.elm_tree.specs.Tree.{TypeTree, TypeVariable, TypeName, UnitType, Function, TypeParens, TypeTrees, NoType, MoreTypes, Expr, Int, Name, Qualified, UnitOf, Parens, Pair, Record, Apply, Chain, Lambda, Exprs, NoExpr, MoreExprs, Operands, NoOperand, MoreOperands, Fields, NoField, MoreFields, Declaration, Port, Annotation, Definition, Module}
+use Rattle.elm_tree.specs.Tree.{TypeTree, TypeVariable, TypeName, UnitType, PairType, TripleType, RecordType, Function, TypeParens, TypeTrees, NoType, MoreTypes, FieldTypes, NoFieldType, MoreFieldTypes, Expr, Int, Name, Qualified, UnitOf, Parens, Pair, Triple, Record, Apply, Chain, Lambda, Exprs, NoExpr, MoreExprs, Operands, NoOperand, MoreOperands, Fields, NoField, MoreFields, Declaration, Port, Annotation, Definition, Module}
 
 -- where a part stands: as an argument, as an operand with others behind it, as the last operand, or alone
 pub data Level : Type 0 where
@@ -37,6 +37,7 @@ abbrev mutual
   expr_shaped l UnitOf = true
   expr_shaped l (Parens e) = expr_shaped Whole e
   expr_shaped l (Pair a b) = expr_shaped Whole a && expr_shaped Whole b
+  expr_shaped l (Triple a b c) = expr_shaped Whole a && (expr_shaped Whole b && expr_shaped Whole c)
   expr_shaped l (Record fs) = fields_shaped fs
   expr_shaped l (Apply f a es) = admits_application l && (expr_shaped Argument f && (expr_shaped Argument a && exprs_shaped es))
   expr_shaped l (Chain a op b os) = admits_chain l && (expr_shaped Operand a && (expr_shaped (level_before os) b && operands_shaped os))
@@ -65,12 +66,19 @@ abbrev mutual
   type_shaped l (TypeName t NoType) = true
   type_shaped l (TypeName t (MoreTypes a ts)) = admits_application l && (type_shaped Argument a && types_shaped ts)
   type_shaped l UnitType = true
+  type_shaped l (PairType a b) = type_shaped Whole a && type_shaped Whole b
+  type_shaped l (TripleType a b c) = type_shaped Whole a && (type_shaped Whole b && type_shaped Whole c)
+  type_shaped l (RecordType fs) = field_types_shaped fs
   type_shaped l (Function a b) = admits_arrow l && (type_shaped Operand a && type_shaped Whole b)
   type_shaped l (TypeParens t) = type_shaped Whole t
 
   pub types_shaped : TypeTrees → Bool
   types_shaped NoType = true
   types_shaped (MoreTypes t ts) = type_shaped Argument t && types_shaped ts
+
+  pub field_types_shaped : FieldTypes → Bool
+  field_types_shaped NoFieldType = true
+  field_types_shaped (MoreFieldTypes x t fs) = type_shaped Whole t && field_types_shaped fs
 
 abbrev pub declaration_shaped : Declaration → Bool
 declaration_shaped (Port x t) = type_shaped Whole t

@@ -1,9 +1,9 @@
--- Spells: which tokens are the text of a module. (Elm syntax reference; layout.) The header and each declaration begin in column 1, and
+-- Spells: which tokens are the text of a module. (Elm syntax reference; layout.) A header and each declaration begin in column 1, and
 -- every other token stands right of the column that encloses it, which is column 1 in a declaration.
 use Rattle.std.specs.Prelude.{◌≡◌, ℕ, ◌<◌, List, [], ◌∷◌}
 use Rattle.elm_lexer.specs.Tokens.{Token}
 use Rattle.elm_lexer.specs.declared.token.Kind.TheVariants as kind
-use Rattle.elm_tree.specs.Tree.{Declaration, Module}
+use Rattle.elm_tree.specs.Tree.{Declaration, Header, NoHeader, Module}
 use Rattle.elm_tree.specs.Words.{Word, TextOf, NumberOf, Words, header_words, declaration_words}
 
 -- the token is the word
@@ -32,6 +32,11 @@ abbrev pub AreDeclarations : List Declaration → List Token → List Token → 
 AreDeclarations [] ts rest = ts ≡ rest
 AreDeclarations (d ∷ ds) ts rest = (us : List Token) × FitsLine (declaration_words d) ts us × AreDeclarations ds us rest
 
+-- the tokens before rest are the header; a module may have none
+abbrev pub IsHeader : Header → List Token → List Token → Type 0
+IsHeader NoHeader ts rest = ts ≡ rest
+IsHeader header ts rest = FitsLine (header_words header) ts rest
+
 -- the tokens are the module's, all of them
 abbrev pub Spells : Module → List Token → Type 0
-Spells m ts = (us : List Token) × FitsLine (header_words m) ts us × AreDeclarations m.declarations us []
+Spells m ts = (us : List Token) × IsHeader m.header ts us × AreDeclarations m.declarations us []

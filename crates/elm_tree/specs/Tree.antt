@@ -9,12 +9,20 @@ mutual
     -- a type's name, which may have a module, with its arguments
     TypeName : List ℕ → TypeTrees → TypeTree
     UnitType : TypeTree
+    PairType : TypeTree → TypeTree → TypeTree
+    TripleType : TypeTree → TypeTree → TypeTree → TypeTree
+    -- a record, with its fields in written order
+    RecordType : FieldTypes → TypeTree
     Function : TypeTree → TypeTree → TypeTree
     TypeParens : TypeTree → TypeTree
 
   pub data TypeTrees : Type 0 where
     NoType : TypeTrees
     MoreTypes : TypeTree → TypeTrees → TypeTrees
+
+  pub data FieldTypes : Type 0 where
+    NoFieldType : FieldTypes
+    MoreFieldTypes : List ℕ → TypeTree → FieldTypes → FieldTypes
 
 -- a parameter's pattern
 pub data Pattern : Type 0 where
@@ -32,6 +40,7 @@ mutual
     UnitOf : Expr
     Parens : Expr → Expr
     Pair : Expr → Expr → Expr
+    Triple : Expr → Expr → Expr → Expr
     Record : Fields → Expr
     -- a function with one argument or more
     Apply : Expr → Expr → Exprs → Expr
@@ -60,9 +69,17 @@ pub data Declaration : Type 0 where
   -- name parameters = body
   Definition : List ℕ → List Pattern → Expr → Declaration
 
--- `port module NAME exposing (NAME, ..)` and the declarations
+-- what a header exposes: everything, or these names, one or more
+pub data Exposing : Type 0 where
+  Everything : Exposing
+  These : List ℕ → List (List ℕ) → Exposing
+
+-- what stands before the declarations: nothing, `module NAME exposing (..)`, or the same behind `port`
+pub data Header : Type 0 where
+  NoHeader : Header
+  ModuleHeader : List ℕ → Exposing → Header
+  PortHeader : List ℕ → Exposing → Header
+
 pub record Module : Type 0 where
-  pub name : List ℕ
-  pub exposed : List ℕ
-  pub more_exposed : List (List ℕ)
+  pub header : Header
   pub declarations : List Declaration
