@@ -1,6 +1,6 @@
 -- Which items of a module have their types: a value has the type of its annotation, where the names of the module have theirs. (Elm guide: types.)
 use Rattle.std.specs.Prelude.{ℕ, List, [], ◌∷◌, ◌++◌, map}
-use Rattle.elm_canon.specs.Tree.{Ref, Top, IntPayload}
+use Rattle.elm_canon.specs.Tree.{Ref, Top}
 use Rattle.elm_type.specs.Types.{Scheme, Every}
 use Rattle.elm_type.specs.Typing.{Context, HasType, port_type, no_command, no_subscription, worker, no_command_type, no_subscription_type, worker_type}
 use Rattle.program_laws.specs.Items.{Item, PortItem, ValueItem}
@@ -11,7 +11,7 @@ core_context = (no_command, Every no_command_type) ∷ (no_subscription, Every n
 
 -- an item's name with its type
 abbrev pub item_scheme : List ℕ → Item → Ref × Scheme
-item_scheme m (PortItem x) = (Top m x, Every (port_type IntPayload))
+item_scheme m (PortItem x p) = (Top m x, Every (port_type p))
 item_scheme m (ValueItem x t c) = (Top m x, Every t)
 
 -- the names of the module m, and those of the core modules
@@ -19,7 +19,7 @@ abbrev pub module_context : List ℕ → List Item → Context
 module_context m items = map (item_scheme m) items ++ core_context
 
 abbrev pub HasItsType : Context → Item → Type 0
-HasItsType context (PortItem x) = Unit {0}
+HasItsType context (PortItem x p) = Unit {0}
 HasItsType context (ValueItem x t c) = HasType context c t
 
 abbrev pub HaveTheirTypes : Context → List Item → Type 0

@@ -3,4 +3,3 @@ pub mod Link
 pub mod Checked
 pub mod Resolved
 pub mod View
-pub mod Plain

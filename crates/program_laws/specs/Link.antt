@@ -1,16 +1,19 @@
 -- Link: the program that the items of a module are. (Elm guide: JavaScript interop.) Items use each other by their places; what `main` reaches
--- stands in the order of groups, behind the values of the core modules.
+-- stands in the order of groups, behind the values of the core modules that it uses.
 use Rattle.std.specs.Prelude.{◌≡◌, ℕ, suc, List, [], ◌∷◌, ◌++◌, Bool, true, false, Option, Some, None, if◌then◌else◌, option_map, option_and_then, codes, map, ◌==◌}
 use Rattle.std.specs.List.{list_any, slice_index_or}
 use Rattle.std.specs.Str.{bytes_eq}
-use Rattle.elm_canon.specs.Tree.{Ref, Local, Top, Expr, Int, Var, Lambda, Apply, Binary, UnitOf, Pair, Triple, Record, Exprs, NoExpr, MoreExpr, Fields, NoField, MoreField, Defs, NoDef, MoreDef, IntPayload, AnyFlags, Wrapper, EmptyBatch, OutPort, Group, Functions, Constant, Given, Project}
+use Rattle.elm_canon.specs.Tree.{Ref, Local, Top, Expr, Int, Var, Lambda, Apply, Binary, UnitOf, Pair, Triple, Record, Exprs, NoExpr, MoreExpr, Fields, NoField, MoreField, Defs, NoDef, MoreDef, IntPayload, Flags, Known, Wrapper, EmptyBatch, OutPort, Group, Functions, Constant, Given, Project}
+use Rattle.elm_tree.specs.Resolve.{is_among}
+use Rattle.elm_type.specs.Types.{ElmType, program_type}
+use Rattle.elm_type.specs.Typing.{flags_type}
 use Rattle.program_laws.specs.Items.{Item, PortItem, ValueItem}
 use Rattle.decl_groups.specs.Groups.{Reaches, IsOrder, position_of}
 
 -- ---- uses
 
 abbrev pub item_name : Item → List ℕ
-item_name (PortItem x) = x
+item_name (PortItem x p) = x
 item_name (ValueItem x t c) = x
 
 -- the first place of a name
@@ -53,7 +56,7 @@ places_of names (x ∷ xs) = place_before (place_of x names) (places_of names xs
     place_before (Some i) places = i ∷ places
 
 abbrev pub item_uses : List ℕ → List (List ℕ) → Item → List ℕ
-item_uses m names (PortItem x) = []
+item_uses m names (PortItem x p) = []
 item_uses m names (ValueItem x t c) = places_of names (names_used m c)
 
 -- the places that each item uses
@@ -70,7 +73,7 @@ defs_of m (_ ∷ items) = None
 
 -- one item that does not use itself
 abbrev pub single : List ℕ → Item → Option Group
-single m (PortItem x) = Some (Given (Top m x) (OutPort IntPayload))
+single m (PortItem x p) = Some (Given (Top m x) (OutPort p))
 single m (ValueItem x t (Lambda p e)) = Some (Functions (MoreDef (Top m x) p e NoDef))
 single m (ValueItem x t c) = Some (Constant (Top m x) c)
 
@@ -79,10 +82,14 @@ abbrev pub group_of : List ℕ → Bool → List Item → Option Group
 group_of m false (item ∷ []) = single m item
 group_of m _ items = option_map Functions (defs_of m items)
 
+-- the item at a place
+abbrev pub item_at : List Item → ℕ → Item
+item_at items i = slice_index_or items i (PortItem [] IntPayload)
+
 -- the items at the places
 abbrev pub items_at : List Item → List ℕ → List Item
 items_at items [] = []
-items_at items (i ∷ places) = slice_index_or items i (PortItem []) ∷ items_at items places
+items_at items (i ∷ places) = item_at items i ∷ items_at items places
 
 -- the place is among those that it uses
 abbrev pub uses_itself : List (List ℕ) → ℕ → Bool
@@ -107,15 +114,39 @@ pub data AreReached (uses : List (List ℕ)) (start : ℕ) : List (List ℕ) →
   reached : {group : List ℕ} {order kept : List (List ℕ)} → Reaches uses start (position_of group) → AreReached uses start order kept → AreReached uses start (group ∷ order) (group ∷ kept)
   not_reached : {group : List ℕ} {order kept : List (List ℕ)} → (Reaches uses start (position_of group) → ⊥) → AreReached uses start order kept → AreReached uses start (group ∷ order) kept
 
--- the values of the core modules, all of which `main` reaches
-abbrev pub core_groups : List Group
-core_groups =
-    Given (Top (codes "Platform.Cmd") (codes "none")) EmptyBatch
-    ∷ Given (Top (codes "Platform.Sub") (codes "none")) EmptyBatch
-    ∷ Given (Top (codes "Platform") (codes "worker")) (Wrapper 0)
-    ∷ []
+-- ---- the program
 
--- the items of the module m are the program p: each group of items may stand, and those that `main` reaches are the program's
+-- the items of the groups
+abbrev pub items_in : List Item → List (List ℕ) → List Item
+items_in items [] = []
+items_in items (places ∷ order) = items_at items places ++ items_in items order
+
+-- an item uses the name x of the module m
+abbrev pub uses_name : List ℕ → List ℕ → Item → Bool
+uses_name m x (PortItem y p) = false
+uses_name m x (ValueItem y t c) = is_among x (names_used m c)
+
+-- the value x of a core module, where one of the items uses it, before other groups
+abbrev pub with_core : List Item → List ℕ → List ℕ → Known → List Group → List Group
+with_core items m x k groups = if list_any (uses_name m x) items then Given (Top m x) k ∷ groups else groups
+
+-- the values of the core modules that the items use
+abbrev pub core_groups : List Item → List Group
+core_groups items =
+    with_core items (codes "Platform.Cmd") (codes "none") EmptyBatch
+    (with_core items (codes "Platform.Sub") (codes "none") EmptyBatch
+    (with_core items (codes "Platform") (codes "worker") (Wrapper 0) []))
+
+-- a value of the type Program flags model msg
+pub record IsEntry (item : Item) (flags : Flags) : Type 0 where
+  pub model : ElmType
+  pub msg : ElmType
+  pub name : List ℕ
+  pub body : Expr
+  pub is : item ≡ ValueItem name (program_type (flags_type flags) model msg) body
+
+-- the items of the module m are the program p: `main` is a program whose flags may cross; each group of items may stand; those that `main`
+-- reaches are the program's
 pub record IsProgram (m : List ℕ) (items : List Item) (p : Project) : Type 0 where
   pub order : List (List ℕ)
   pub ordered : IsOrder (uses_of m items) [] order
@@ -123,8 +154,10 @@ pub record IsProgram (m : List ℕ) (items : List Item) (p : Project) : Type 0 w
   pub grouped : groups_at m items order ≡ Some all
   pub start : ℕ
   pub found : place_of (codes "main") (map item_name items) ≡ Some start
+  pub flags : Flags
+  pub entry : IsEntry (item_at items start) flags
   pub kept : List (List ℕ)
   pub reached : AreReached (uses_of m items) start order kept
   pub groups : List Group
   pub chosen : groups_at m items kept ≡ Some groups
-  pub is : p ≡ record { groups = core_groups ++ groups; main = Top m (codes "main"); name = m; flags = AnyFlags }
+  pub is : p ≡ record { groups = core_groups (items_in items kept) ++ groups; main = Top m (codes "main"); name = m; flags = flags }

@@ -16,7 +16,7 @@ module_names m items = map (λ item. Top m (item_name item)) items ++ core_names
 
 -- each name in the value is bound
 abbrev pub is_bound : List Ref → Item → Bool
-is_bound names (PortItem x) = true
+is_bound names (PortItem x p) = true
 is_bound names (ValueItem x t c) = is_scoped names c
 
 abbrev pub are_bound : List Ref → List Item → Bool

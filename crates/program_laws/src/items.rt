@@ -1,24 +1,22 @@
 //! What the declarations of a module come to. (Elm guide: types, JavaScript interop.)
 
 use elm_base::units::Units;
-use elm_canon::tree::Expr;
-use elm_type::types::IntType;
+use elm_canon::tree::{Expr, Payload};
+use elm_type::types::Type;
 
 /// What a declaration comes to.
 #[derive(Debug, Drop)]
 pub enum Item {
-    /// An outgoing port, by its name.
-    Port(Units),
+    /// An outgoing port: its name, and the type of what crosses it.
+    Port(Units, Payload),
     Value(Value),
-    /// What `main` means.
-    Main(Expr),
 }
 
-/// A value over Int.
+/// A value.
 #[derive(Debug, Drop)]
 pub struct Value {
     pub name: Units,
-    pub annotation: IntType,
+    pub annotation: Type,
     /// What it means.
     pub body: Expr,
 }

@@ -2,9 +2,8 @@
 #![tactic(auto)]
 
 ghost use Rattle.std.specs.Prelude.{List, codes};
-ghost use Rattle.std.specs.List.{Contains};
-ghost use Rattle.elm_canon.specs.Tree.{Expr, Project};
-ghost use Rattle.program_laws.specs.Items.{Item, ValueItem, main_type};
+ghost use Rattle.elm_canon.specs.Tree.{Project};
+ghost use Rattle.program_laws.specs.Items.{Item};
 ghost use Rattle.elm_type.specs.Typing.{IsTyped};
 ghost use Rattle.program_laws.specs.Checked.{AreTyped};
 ghost use Rattle.js_emit.specs.Scoped.{IsScoped};
@@ -18,7 +17,7 @@ pub fn scoped_law()
     ensures { (items : List Item) (p : Project) → AreResolved (codes "Main") items → IsProgram (codes "Main") items p → IsScoped p }
 {}
 
-/// The program of a module has types, where each of its items has its own and `main` has that of a program.
+/// The program of a module has types, where each of its items has its own.
 pub fn typed_law()
-    ensures { (items : List Item) (p : Project) → AreResolved (codes "Main") items → AreTyped (codes "Main") items → IsProgram (codes "Main") items p → (c : Expr) → Contains items (ValueItem (codes "main") main_type c) → IsTyped p }
+    ensures { (items : List Item) (p : Project) → AreResolved (codes "Main") items → AreTyped (codes "Main") items → IsProgram (codes "Main") items p → IsTyped p }
 {}
