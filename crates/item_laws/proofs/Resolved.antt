@@ -1,23 +1,22 @@
 -- What name resolution gives is bound.
 use Rattle.std.proofs.Common.{◌≡◌, ⊎_elim, ℕ, List, [], ◌∷◌, true, refl, sym, ap, subst}
-use Rattle.std.specs.Prelude.{codes, map}
+use Rattle.std.specs.Prelude.{codes, map, ◌&&◌}
 use Rattle.std.proofs.lemmas.Bool.{and_from}
 use Rattle.elm_canon.specs.Tree as canon
 use Rattle.elm_canon.specs.Tree.{Ref, Local, Top, Operator}
 use Rattle.elm_tree.specs.Resolve.{Scope, is_among, are_distinct, bound_names, with_locals, Resolves, ResolvesAll, ResolvesOperands, ResolvesFields}
-use Rattle.elm_tree.specs.Simple.{worker_body}
-use Rattle.elm_tree.specs.Tree.{NamePattern, Expr, Int, Name, Qualified, UnitOf, Parens, Pair, Record, Apply, Chain, Lambda, Exprs, NoExpr, MoreExprs, Operands, NoOperand, MoreOperands, Fields, NoField, MoreFields, Declaration, Module}
+use Rattle.elm_tree.specs.Tree.{Pattern, Expr, Int, Name, Qualified, UnitOf, Parens, Pair, Triple, Record, Apply, Chain, Lambda, Exprs, NoExpr, MoreExprs, Operands, NoOperand, MoreOperands, Fields, NoField, MoreFields, Declaration, Module}
 use Rattle.elm_tree.specs.Utf16.{units_of}
 use Rattle.js_emit.specs.Scoped.{among, is_scoped, all_scoped, fields_scoped}
-use Rattle.name_resolution.specs.Meaning.{declared_names, module_scope, function_of, DefinitionMeans}
+use Rattle.name_resolution.specs.Meaning.{declared_names, module_scope, DefinitionMeans}
 use Rattle.program_laws.specs.Items.{Item}
 use Rattle.program_laws.specs.Link.{item_name}
 use Rattle.program_laws.specs.Resolved.{core_names, module_names, are_bound, AreResolved}
 use Rattle.program_laws.proofs.Names.{among_first, among_later}
-use Rattle.module_items.specs.Items.{AreItems, no_item, port, value, main, IsModule}
+use Rattle.module_items.specs.Items.{AreItems, no_item, port, value, IsModule}
 use Rattle.item_laws.proofs.Declared.{same_names}
 use Rattle.item_laws.proofs.Chains.{HoldsBehind, chain_holds}
-use Rattle.item_laws.proofs.Scopes.{is_among_cases, Covers, name_covered, core_covered, behind, lambdas_scoped, behind_covers}
+use Rattle.item_laws.proofs.Scopes.{is_among_cases, Covers, name_covered, core_covered, behind, functions_scoped, behind_covers}
 
 abbrev Scoped : List Ref → canon.Expr → Type 0
 Scoped names c = is_scoped names c ≡ true
@@ -34,6 +33,9 @@ mutual
   resolved_scoped (Parens e) s names c h r = resolved_scoped e s names c h r
   resolved_scoped (Pair a b) s names c h (p, q, g, k, e) =
       subst (Scoped names) (sym e) (and_from (is_scoped names p) (is_scoped names q) (resolved_scoped a s names p h g) (resolved_scoped b s names q h k))
+  resolved_scoped (Triple a b d) s names c h (p, q, r, g, k, l, e) =
+      subst (Scoped names) (sym e) (and_from (is_scoped names p) (is_scoped names q && is_scoped names r) (resolved_scoped a s names p h g)
+      (and_from (is_scoped names q) (is_scoped names r) (resolved_scoped b s names q h k) (resolved_scoped d s names r h l)))
   resolved_scoped (Record fs) s names c h (gs, _, g, e) = subst (Scoped names) (sym e) (fields_resolved fs s names gs h g)
   resolved_scoped (Apply f a es) s names c h (p, q, ds, g, i, k, e) =
       subst (Scoped names) (sym e) (and_from (is_scoped names p) (all_scoped names (canon.MoreExpr q ds)) (resolved_scoped f s names p h g)
@@ -42,7 +44,7 @@ mutual
       subst (Scoped names) (sym e) (chain_holds (Scoped names) (joined names) p ((o, q) ∷ rs) t l (resolved_scoped a s names p h g)
       (resolved_scoped b s names q h i, operands_resolved os s names rs h k))
   resolved_scoped (Lambda p ps e) s names c h (d, _, g, f) =
-      subst (Scoped names) (sym f) (lambdas_scoped p ps d names
+      subst (Scoped names) (sym f) (functions_scoped (p ∷ ps) d names
       (resolved_scoped e (with_locals (bound_names (p ∷ ps)) s) (behind (p ∷ ps) names) d (behind_covers (p ∷ ps) s names h) g))
 
   all_resolved : (es : Exprs) (s : Scope) (names : List Ref) (cs : canon.Exprs) → Covers s names → ResolvesAll es s cs → all_scoped names cs ≡ true
@@ -60,31 +62,17 @@ mutual
   fields_resolved (MoreFields x e fs) s names gs h (d, ds, g, i, k) =
       subst (λ k. fields_scoped names k ≡ true) (sym k) (and_from (is_scoped names d) (fields_scoped names ds) (resolved_scoped e s names d h g) (fields_resolved fs s names ds h i))
 
--- functions of named parameters
-function_scoped : (xs : List (List ℕ)) (body : canon.Expr) (names : List Ref) → Scoped (behind (map NamePattern xs) names) body → Scoped names (function_of (map units_of xs) body)
-function_scoped [] body names h = h
-function_scoped (x ∷ xs) body names h = function_scoped xs body (Local (units_of x) ∷ names) h
-
-bound_same : (xs : List (List ℕ)) → bound_names (map NamePattern xs) ≡ map units_of xs
-bound_same [] = refl
-bound_same (x ∷ xs) = ap (λ ys. units_of x ∷ ys) (bound_same xs)
-
-definition_scoped : (all : List Declaration) (xs : List (List ℕ)) (e : Expr) (c : canon.Expr) (names : List Ref) → Covers (module_scope all) names → DefinitionMeans all xs e c → Scoped names c
-definition_scoped all xs e c names h d =
-    let body : Resolves e (with_locals (bound_names (map NamePattern xs)) (module_scope all)) d.body =
-    subst (λ ys. Resolves e (with_locals ys (module_scope all)) d.body) (sym (bound_same xs)) d.resolved in
-    subst (Scoped names) (sym d.is) (function_scoped xs d.body names
-    (resolved_scoped e (with_locals (bound_names (map NamePattern xs)) (module_scope all)) (behind (map NamePattern xs) names) d.body
-    (behind_covers (map NamePattern xs) (module_scope all) names h) body))
+definition_scoped : (all : List Declaration) (ps : List Pattern) (e : Expr) (c : canon.Expr) (names : List Ref) → Covers (module_scope all) names → DefinitionMeans all ps e c → Scoped names c
+definition_scoped all ps e c names h d =
+    subst (Scoped names) (sym d.is) (functions_scoped ps d.body names
+    (resolved_scoped e (with_locals (bound_names ps) (module_scope all)) (behind ps names) d.body (behind_covers ps (module_scope all) names h) d.resolved))
 
 -- each item's value is bound, where the scope has the module's names
 items_scoped : {all ds : List Declaration} {items : List Item} (names : List Ref) → Covers (module_scope all) names → AreItems all ds items → are_bound names items ≡ true
 items_scoped names h no_item = refl
 items_scoped names h (port z k) = items_scoped names h k
-items_scoped {all} names h (value {e = e} {c = c} {items = items} xs z t d k) =
-    and_from (is_scoped names c) (are_bound names items) (definition_scoped all xs e c names h d) (items_scoped names h k)
-items_scoped {all} names h (main {c} {items = items} p sent d k) =
-    and_from (is_scoped names c) (are_bound names items) (resolved_scoped (worker_body p sent) (module_scope all) names c h d.resolved) (items_scoped names h k)
+items_scoped {all} names h (value {parameters = ps} {e = e} {c = c} {items = items} t d k) =
+    and_from (is_scoped names c) (are_bound names items) (definition_scoped all ps e c names h d) (items_scoped names h k)
 
 -- the names of the module have each item's name, and the core values
 item_covered : (m : List ℕ) (items : List Item) (x : List ℕ) → is_among x (map item_name items) ≡ true → among (Top m x) (module_names m items) ≡ true

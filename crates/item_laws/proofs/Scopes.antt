@@ -5,7 +5,7 @@ use Rattle.std.specs.Str.{bytes_eq}
 use Rattle.std.proofs.lemmas.Bool.{or_cases}
 use Rattle.std.proofs.lemmas.Slice.Eq.{bytes_eq-Decides}
 use Rattle.elm_canon.specs.Tree.{Ref, Local, Top, Expr}
-use Rattle.elm_tree.specs.Resolve.{Scope, is_among, name_meaning, row_of, core_values, bound_names, with_locals, pattern_meaning, lambdas}
+use Rattle.elm_tree.specs.Resolve.{Scope, is_among, name_meaning, row_of, core_values, bound_names, with_locals, pattern_meaning, functions}
 use Rattle.elm_tree.specs.Tree.{Pattern, NamePattern, Wildcard}
 use Rattle.elm_tree.specs.Utf16.{units_of}
 use Rattle.js_emit.specs.Scoped.{among, with_parameter, is_scoped}
@@ -50,9 +50,9 @@ behind [] names = names
 behind (p ∷ ps) names = behind ps (with_parameter (pattern_meaning p) names)
 
 -- the body of functions stands behind their parameters
-pub lambdas_scoped : (p : Pattern) (ps : List Pattern) (body : Expr) (names : List Ref) → is_scoped (behind (p ∷ ps) names) body ≡ true → is_scoped names (lambdas p ps body) ≡ true
-lambdas_scoped p [] body names h = h
-lambdas_scoped p (q ∷ qs) body names h = lambdas_scoped q qs body (with_parameter (pattern_meaning p) names) h
+pub functions_scoped : (ps : List Pattern) (body : Expr) (names : List Ref) → is_scoped (behind ps names) body ≡ true → is_scoped names (functions ps body) ≡ true
+functions_scoped [] body names h = h
+functions_scoped (p ∷ ps) body names h = functions_scoped ps body (with_parameter (pattern_meaning p) names) h
 
 parameter_keeps : (p : Pattern) (names : List Ref) (r : Ref) → among r names ≡ true → among r (with_parameter (pattern_meaning p) names) ≡ true
 parameter_keeps (NamePattern x) names r h = among_later r (Local (units_of x)) names h

@@ -8,17 +8,15 @@ ghost use Rattle.elm_tree.specs.Tree.{Module};
 ghost use Rattle.elm_type.specs.Types.{ElmType};
 ghost use Rattle.js_emit.specs.Emit.{made_in};
 ghost use Rattle.name_resolution.specs.Meaning.{declared_names};
-ghost use Rattle.name_resolution.specs.Meaning as declared;
 ghost use Rattle.program_laws.specs.Items.{Item, ValueItem};
 ghost use Rattle.program_laws.specs.Link.{item_name};
-ghost use Rattle.program_laws.specs.Plain.{port_names, ArePlain};
 ghost use Rattle.program_laws.specs.Resolved.{AreResolved};
 ghost use Rattle.module_items.specs.Items.{IsModule};
+ghost use Rattle.item_laws.specs.Count.{words_in};
 
-/// The items have the names that the module declares, in order, and so have the ports.
+/// The items have the names that the module declares, in order.
 pub fn names_law()
-    ensures all { (m : Module) (items : List Item) → IsModule m items → map item_name items ≡ declared_names m.declarations }
-    ensures ports { (m : Module) (items : List Item) → IsModule m items → port_names items ≡ declared.port_names m.declarations }
+    ensures { (m : Module) (items : List Item) → IsModule m items → map item_name items ≡ declared_names m.declarations }
 {}
 
 /// Each name that an item's value uses is bound, and each item has a name of its own.
@@ -26,12 +24,7 @@ pub fn resolved_law()
     ensures { (m : Module) (items : List Item) → IsModule m items → AreResolved (codes "Main") items }
 {}
 
-/// Each item is a port, a value over Int, or `main`, a worker that sends what such a value gives.
-pub fn plain_law()
-    ensures { (m : Module) (items : List Item) → IsModule m items → ArePlain items }
-{}
-
-/// Three made names are enough for each item's value.
+/// An item's value takes at most as many made names as the module's declarations have words.
 pub fn made_law()
-    ensures { (m : Module) (items : List Item) → IsModule m items → (x : List ℕ) (t : ElmType) (c : Expr) → Contains items (ValueItem x t c) → made_in c ≤ 3 }
+    ensures { (m : Module) (items : List Item) → IsModule m items → (x : List ℕ) (t : ElmType) (c : Expr) → Contains items (ValueItem x t c) → made_in c ≤ words_in m.declarations }
 {}

@@ -1,5 +1,5 @@
 -- What holds of each accepted text.
-use Rattle.std.proofs.Common.{◌≡◌, ℕ, List, [], true, Option}
+use Rattle.std.proofs.Common.{◌≡◌, ℕ, ◌≤◌, List, [], true, Option, length, arith}
 use Rattle.wire_value.specs.Wire.{Wire}
 use Rattle.runs.specs.Trace.{SameRun, IsRuled, IsSafe}
 use Rattle.runs.proofs.Traces.{claimed}
@@ -27,7 +27,7 @@ accepted_scoped text p a = programs_scoped a.items p (module_resolved a.tree a.i
 
 -- it has types
 pub accepted_typed : (text : List ℕ) (p : Project) → IsAccepted text p → IsTyped p
-accepted_typed text p a = programs_typed a.items p (module_resolved a.tree a.items a.meant) a.typed a.linked a.meant.entry a.meant.starts
+accepted_typed text p a = programs_typed a.items p (module_resolved a.tree a.items a.meant) a.typed a.linked
 
 -- its literals are exact
 pub accepted_exact : (text : List ℕ) (p : Project) → IsAccepted text p → ProjectHasExactLiterals p
@@ -36,7 +36,8 @@ accepted_exact text p a = literals_exact text a.tokens a.tree a.items p a.cut a.
 -- its JavaScript is in the subset
 pub accepted_subset : (text : List ℕ) (p : Project) → IsAccepted text p → in_subset (Emit p) ≡ true
 accepted_subset text p a =
-    emitted_in_subset p (accepted_scoped text p a) (names_spelled text a.tokens a.tree a.items p a.cut a.spelled a.meant a.linked) (accepted_exact text p a)
+    let short : length text ≤ 4194304 = a.short in
+    emitted_in_subset p (accepted_scoped text p a) (names_spelled text a.tokens a.tree a.items p (omega arith) a.cut a.spelled a.meant a.linked) (accepted_exact text p a)
 
 -- its runs never end where no rule applies
 pub accepted_ruled : (text : List ℕ) (p : Project) → IsAccepted text p → (flags : Wire) (n : ℕ) → IsRuled (SourceRun p flags [] n)

@@ -7,7 +7,6 @@ use Rattle.program_laws.specs.Link.{IsProgram}
 use Rattle.module_items.specs.Items.{IsModule}
 use Rattle.elm_parser.proofs.Whole.{same_tree}
 use Rattle.module_items.proofs.Same.{one_list}
-use Rattle.module_items.proofs.AreSimple.{is_read}
 use Rattle.program_link.proofs.Unique.{one_program}
 use Rattle.module_compile.specs.Made.{IsAccepted, Result, Good, NotYet, Made, accepted, refused, too_long}
 
@@ -16,7 +15,7 @@ pub same_program : (text : List ℕ) (p q : Project) → IsAccepted text p → I
 same_program text p q a b =
     let cut : b.tokens ≡ a.tokens = same_tokens text b.tokens a.tokens b.cut a.cut in
     let spelled : Spells b.tree a.tokens = subst (λ ts. Spells b.tree ts) cut b.spelled in
-    let tree : b.tree ≡ a.tree = same_tree a.tokens b.tree a.tree (is_read b.tree b.items b.meant) (is_read a.tree a.items a.meant) b.shaped a.shaped b.within a.within spelled a.spelled in
+    let tree : b.tree ≡ a.tree = same_tree a.tokens b.tree a.tree b.shaped a.shaped b.within a.within spelled a.spelled in
     let meant : IsModule a.tree b.items = subst (λ m. IsModule m b.items) tree b.meant in
     let items : b.items ≡ a.items = one_list a.tree b.items a.items meant a.meant in
     one_program (codes "Main") a.items p q a.linked (subst (λ is. IsProgram (codes "Main") is q) items b.linked)

@@ -8,13 +8,11 @@ use Rattle.elm_tree.specs.Resolve.{are_distinct}
 use Rattle.elm_tree.specs.Spells.{Spells}
 use Rattle.elm_tree.specs.Shape.{is_shaped}
 use Rattle.elm_tree.specs.Limits.{module_within}
-use Rattle.elm_tree.specs.Simple.{IsSimple}
 use Rattle.elm_parser.proofs.Whole.{same_tree}
 use Rattle.program_laws.specs.Items.{Item}
 use Rattle.program_laws.specs.Link.{IsProgram, item_name}
 use Rattle.program_laws.specs.Checked.{AreTyped}
 use Rattle.module_items.specs.Items.{IsModule}
-use Rattle.module_items.proofs.AreSimple.{is_read}
 use Rattle.module_items.proofs.Same.{one_list}
 use Rattle.item_laws.proofs.Declared.{module_names_same}
 use Rattle.module_compile.specs.Steps.{IsProgramOf}
@@ -24,15 +22,14 @@ pub record IsTree (ts : List Token) (m : Module) : Type 0 where
   pub spelled : Spells m ts
   pub shaped : is_shaped m ≡ true
   pub within : module_within m ≡ true
-  pub simple : IsSimple m
 
 -- tokens without a tree are no program
-pub no_tree : (ts : List Token) → ((m : Module) → IsSimple m → is_shaped m ≡ true → module_within m ≡ true → Spells m ts → ⊥) → (p : Project) → IsProgramOf ts p → ⊥
-no_tree ts never p b = never b.tree (is_read b.tree b.items b.meant) b.shaped b.within b.spelled
+pub no_tree : (ts : List Token) → ((m : Module) → is_shaped m ≡ true → module_within m ≡ true → Spells m ts → ⊥) → (p : Project) → IsProgramOf ts p → ⊥
+no_tree ts never p b = never b.tree b.shaped b.within b.spelled
 
 -- the tree of a program's tokens
 tree_is : (ts : List Token) (m : Module) (p : Project) → IsTree ts m → (b : IsProgramOf ts p) → b.tree ≡ m
-tree_is ts m p t b = same_tree ts b.tree m (is_read b.tree b.items b.meant) t.simple b.shaped t.shaped b.within t.within b.spelled t.spelled
+tree_is ts m p t b = same_tree ts b.tree m b.shaped t.shaped b.within t.within b.spelled t.spelled
 
 -- nor are those of a tree that declares nothing
 pub no_items : (ts : List Token) (m : Module) → IsTree ts m → ((items : List Item) → IsModule m items → ⊥) → (p : Project) → IsProgramOf ts p → ⊥

@@ -1,6 +1,6 @@
 -- Made: what a module's text comes to. Either it is a program, or it has faults; today each fault is the one that says that the compiler
 -- does not know the text yet.
-use Rattle.std.specs.Prelude.{◌≡◌, ℕ, List, true, Option, Some, None, codes}
+use Rattle.std.specs.Prelude.{◌≡◌, ℕ, ◌≤◌, List, true, Option, Some, None, length, codes}
 use Rattle.elm_lexer.specs.Tokens.{Token, Tokens}
 use Rattle.elm_canon.specs.Tree.{Project}
 use Rattle.elm_tree.specs.Tree.{Module}
@@ -12,8 +12,10 @@ use Rattle.program_laws.specs.Checked.{AreTyped}
 use Rattle.program_laws.specs.Link.{IsProgram}
 use Rattle.module_items.specs.Items.{IsModule}
 
--- the text's tokens spell a tree within the limits, whose declarations have a meaning and their types, and are this program
+-- the text is at most 4 MiB long, and its tokens spell a tree within the limits, whose declarations have a meaning and their types, and are
+-- this program
 pub record IsAccepted (text : List ℕ) (p : Project) : Type 0 where
+  pub short : length text ≤ 4194304
   pub tokens : List Token
   pub tree : Module
   pub items : List Item

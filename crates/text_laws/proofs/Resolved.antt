@@ -8,15 +8,15 @@ use Rattle.elm_canon.specs.Tree as canon
 use Rattle.elm_canon.specs.Tree.{Ref, Local, Top, Operator}
 use Rattle.elm_lexer.specs.declared.token.Kind.TheVariants as kind
 use Rattle.elm_tree.specs.Utf16.{units_of}
-use Rattle.elm_tree.specs.Tree.{Pattern, NamePattern, Wildcard, Expr, Int, Name, Qualified, UnitOf, Parens, Pair, Record, Apply, Chain, Lambda, Exprs, NoExpr, MoreExprs, Operands, NoOperand, MoreOperands, Fields, NoField, MoreFields}
-use Rattle.elm_tree.specs.Words.{one, lower, open_paren, close_paren, comma, equals, arrow, pattern_words, patterns_words, expr_words, exprs_words, operands_words, fields_words, more_fields_words}
-use Rattle.elm_tree.specs.Resolve.{Scope, is_among, name_meaning, row_of, core_values, bound_names, with_locals, pattern_meaning, lambdas, Resolves, ResolvesAll, ResolvesOperands, ResolvesFields}
+use Rattle.elm_tree.specs.Tree.{Pattern, NamePattern, Wildcard, Expr, Int, Name, Qualified, UnitOf, Parens, Pair, Triple, Record, Apply, Chain, Lambda, Exprs, NoExpr, MoreExprs, Operands, NoOperand, MoreOperands, Fields, NoField, MoreFields}
+use Rattle.elm_tree.specs.Words.{one, lower, open_paren, close_paren, open_brace, close_brace, comma, equals, arrow, pattern_words, patterns_words, expr_words, exprs_words, operands_words, fields_words, more_fields_words}
+use Rattle.elm_tree.specs.Resolve.{Scope, is_among, name_meaning, row_of, core_values, bound_names, with_locals, pattern_meaning, functions, Resolves, ResolvesAll, ResolvesOperands, ResolvesFields}
 use Rattle.js_tree.specs.Subset.{is_unit, is_word, is_module}
 use Rattle.js_emit.specs.Literals.{HasExactLiterals, AllHaveExactLiterals, FieldsHaveExactLiterals}
 use Rattle.js_emit.specs.Spelled.{can_spell_name, can_spell_parameter, can_spell, can_spell_all, can_spell_fields}
 use Rattle.item_laws.proofs.Chains.{HoldsBehind, chain_holds}
 use Rattle.text_laws.proofs.Spelling.{name_is_word, word_units}
-use Rattle.text_laws.proofs.Words.{AreGoodWords, cut_words}
+use Rattle.text_laws.proofs.Words.{AreGoodWords, cut_words, join_words}
 
 -- literals are exact, and names can be spelled
 pub record IsGood (c : canon.Expr) : Type 0 where
@@ -62,20 +62,26 @@ parameter_good Wildcard h = refl
 
 -- ---- expressions
 
-pub lambda_good : (p : canon.Pattern) (c : canon.Expr) → can_spell_parameter p ≡ true → IsGood c → IsGood (canon.Lambda p c)
+lambda_good : (p : canon.Pattern) (c : canon.Expr) → can_spell_parameter p ≡ true → IsGood c → IsGood (canon.Lambda p c)
 lambda_good p c h g = record { exact = g.exact; spelled = and_from (can_spell_parameter p) (can_spell c) h g.spelled }
 
-lambdas_good : (p : Pattern) (ps : List Pattern) (c : canon.Expr) → AreGoodWords (pattern_words p) → AreGoodWords (patterns_words ps) → IsGood c → IsGood (lambdas p ps c)
-lambdas_good p [] c h hs g = lambda_good (pattern_meaning p) c (parameter_good p h) g
-lambdas_good p (q ∷ qs) c h hs g =
-    let r = cut_words (pattern_words q) (patterns_words qs) hs in
-    lambda_good (pattern_meaning p) (lambdas q qs c) (parameter_good p h) (lambdas_good q qs c r.0 r.1 g)
+pub functions_good : (ps : List Pattern) (c : canon.Expr) → AreGoodWords (patterns_words ps) → IsGood c → IsGood (functions ps c)
+functions_good [] c hs g = g
+functions_good (p ∷ ps) c hs g =
+    let r = cut_words (pattern_words p) (patterns_words ps) hs in
+    lambda_good (pattern_meaning p) (functions ps c) (parameter_good p r.0) (functions_good ps c r.1 g)
 
 binary_good : (op : Operator) (a b : canon.Expr) → IsGood a → IsGood b → IsGood (canon.Binary op a b)
 binary_good op a b g h = record { exact = (g.exact, h.exact); spelled = and_from (can_spell a) (can_spell b) g.spelled h.spelled }
 
 pair_good : (a b : canon.Expr) → IsGood a → IsGood b → IsGood (canon.Pair a b)
 pair_good a b g h = record { exact = (g.exact, h.exact); spelled = and_from (can_spell a) (can_spell b) g.spelled h.spelled }
+
+triple_good : (a b c : canon.Expr) → IsGood a → IsGood b → IsGood c → IsGood (canon.Triple a b c)
+triple_good a b c g h k = record {
+  exact = (g.exact, (h.exact, k.exact));
+  spelled = and_from (can_spell a) (can_spell b && can_spell c) g.spelled (and_from (can_spell b) (can_spell c) h.spelled k.spelled);
+}
 
 more_good : (c : canon.Expr) (cs : canon.Exprs) → IsGood c → AreGood cs → AreGood (canon.MoreExpr c cs)
 more_good c cs g h = record { exact = (g.exact, h.exact); spelled = and_from (can_spell c) (can_spell_all cs) g.spelled h.spelled }
@@ -101,8 +107,15 @@ mutual
       let both = cut_words (open_paren ++ expr_words a ++ comma) (expr_words b) all.0 in
       let first = cut_words (open_paren ++ expr_words a) comma both.0 in
       subst IsGood (sym r.4) (pair_good r.0 r.1 (resolved_good a s r.0 first.0.1 m r.2) (resolved_good b s r.1 both.1 m r.3))
+  resolved_good (Triple a b d) s c h m r =
+      let all = cut_words (open_paren ++ expr_words a ++ comma ++ expr_words b ++ comma ++ expr_words d) close_paren h in
+      let third = cut_words (open_paren ++ expr_words a ++ comma ++ expr_words b ++ comma) (expr_words d) all.0 in
+      let two = cut_words (open_paren ++ expr_words a ++ comma ++ expr_words b) comma third.0 in
+      let both = cut_words (open_paren ++ expr_words a ++ comma) (expr_words b) two.0 in
+      let first = cut_words (open_paren ++ expr_words a) comma both.0 in
+      subst IsGood (sym r.6) (triple_good r.0 r.1 r.2 (resolved_good a s r.0 first.0.1 m r.3) (resolved_good b s r.1 both.1 m r.4) (resolved_good d s r.2 third.1 m r.5))
   resolved_good (Record fs) s c h m r =
-      let g = fields_good fs s r.0 (cut_words (one kind.OpenBrace (codes "{") ++ fields_words fs) (one kind.CloseBrace (codes "}")) h).0.1 m r.2 in
+      let g = fields_good fs s r.0 (cut_words (open_brace ++ fields_words fs) close_brace h).0.1 m r.2 in
       subst IsGood (sym r.3) (record { exact = g.exact; spelled = g.spelled })
   resolved_good (Apply f a es) s c h m r =
       let all = cut_words (expr_words f ++ expr_words a) (exprs_words es) h in
@@ -119,7 +132,7 @@ mutual
       let all = cut_words (one kind.Backslash (codes "\\") ++ pattern_words p ++ patterns_words ps ++ arrow) (expr_words e) h in
       let before = cut_words (one kind.Backslash (codes "\\") ++ pattern_words p ++ patterns_words ps) arrow all.0 in
       let both = cut_words (one kind.Backslash (codes "\\") ++ pattern_words p) (patterns_words ps) before.0 in
-      subst IsGood (sym r.3) (lambdas_good p ps r.0 both.0.1 both.1 (resolved_good e (with_locals (bound_names (p ∷ ps)) s) r.0 all.1 m r.2))
+      subst IsGood (sym r.3) (functions_good (p ∷ ps) r.0 (join_words (pattern_words p) (patterns_words ps) both.0.1 both.1) (resolved_good e (with_locals (bound_names (p ∷ ps)) s) r.0 all.1 m r.2))
 
   all_good : (es : Exprs) (s : Scope) (cs : canon.Exprs) → AreGoodWords (exprs_words es) → HasModule s → ResolvesAll es s cs → AreGood cs
   all_good NoExpr s cs h m r = subst AreGood (sym r) (record { exact = tt; spelled = refl })

@@ -3,9 +3,9 @@ use Rattle.std.proofs.Common.{◌≡◌, ℕ, ◌≤◌, ◌<◌, List, [], ◌�
 use Rattle.elm_lexer.specs.declared.token.Kind.{Kind}
 use Rattle.elm_lexer.specs.Names.{SpellsName}
 use Rattle.elm_lexer.specs.Tokens.{Token, Tokens}
-use Rattle.elm_tree.specs.Tree.{Declaration, Module}
+use Rattle.elm_tree.specs.Tree.{Declaration, Header, NoHeader, ModuleHeader, PortHeader, Module}
 use Rattle.elm_tree.specs.Words.{Word, TextOf, NumberOf, Words, header_words, declaration_words}
-use Rattle.elm_tree.specs.Spells.{IsWord, Begins, Fits, FitsLine, AreDeclarations, Spells}
+use Rattle.elm_tree.specs.Spells.{IsWord, Begins, Fits, FitsLine, AreDeclarations, IsHeader, Spells}
 use Rattle.text_laws.proofs.Tokens.{IsExactKind, IsGoodToken, AreGoodTokens, tokens_good}
 
 -- an integer is exact, and a name is a word
@@ -22,6 +22,10 @@ AreGoodWords (w ∷ ws) = IsGoodWord w × AreGoodWords ws
 pub cut_words : (ws vs : Words) → AreGoodWords (ws ++ vs) → AreGoodWords ws × AreGoodWords vs
 cut_words [] vs h = (tt, h)
 cut_words (w ∷ ws) vs h = let r = cut_words ws vs h.1 in ((h.0, r.0), r.1)
+
+pub join_words : (ws vs : Words) → AreGoodWords ws → AreGoodWords vs → AreGoodWords (ws ++ vs)
+join_words [] vs g h = h
+join_words (w ∷ ws) vs g h = (g.0, join_words ws vs g.1 h)
 
 -- a word that is a good token
 word_good : (w : Word) (t : Token) → IsWord w t → IsGoodToken t → IsGoodWord w
@@ -60,6 +64,12 @@ declarations_good (d ∷ ds) ts rest f h =
     let r = line_good (declaration_words d) ts f.0 f.1 h in
     (r.0, declarations_good ds f.0 rest f.2 r.1)
 
+-- a header that is good tokens
+header_good : (h : Header) (ts rest : List Token) → IsHeader h ts rest → AreGoodTokens ts → AreGoodTokens rest
+header_good NoHeader ts rest f h = subst AreGoodTokens f h
+header_good (ModuleHeader m e) ts rest f h = (line_good (header_words (ModuleHeader m e)) ts rest f h).1
+header_good (PortHeader m e) ts rest f h = (line_good (header_words (PortHeader m e)) ts rest f h).1
+
 -- those of a text's module
 pub module_good : (text : List ℕ) (ts : List Token) (m : Module) → Tokens text ts → Spells m ts → AreGoodDeclarations m.declarations
-module_good text ts m cut f = declarations_good m.declarations f.0 [] f.2 (line_good (header_words m) ts f.0 f.1 (tokens_good text ts cut)).1
+module_good text ts m cut f = declarations_good m.declarations f.0 [] f.2 (header_good m.header ts f.0 f.1 (tokens_good text ts cut))

@@ -1,7 +1,7 @@
 //! What the tokens of a text give for the names and the literals of its program.
 #![tactic(auto)]
 
-ghost use Rattle.std.specs.Prelude.{ℕ, ◌≤◌, List, length, codes};
+ghost use Rattle.std.specs.Prelude.{ℕ, ◌<◌, ◌≤◌, ◌^◌, List, length, codes};
 ghost use Rattle.elm_canon.specs.Tree.{Project};
 ghost use Rattle.elm_lexer.specs.Tokens.{Token, Tokens};
 ghost use Rattle.elm_tree.specs.Tree.{Module};
@@ -17,9 +17,9 @@ pub fn exact_law()
     ensures { (text : List ℕ) (ts : List Token) (m : Module) (items : List Item) (p : Project) → Tokens text ts → Spells m ts → IsModule m items → IsProgram (codes "Main") items p → ProjectHasExactLiterals p }
 {}
 
-/// JavaScript can spell the program of a text's module.
+/// JavaScript can spell the program of a text's module: made names have numbers below 2^64, and a text that is shorter takes fewer.
 pub fn spelled_law()
-    ensures { (text : List ℕ) (ts : List Token) (m : Module) (items : List Item) (p : Project) → Tokens text ts → Spells m ts → IsModule m items → IsProgram (codes "Main") items p → CanBeSpelled p }
+    ensures { (text : List ℕ) (ts : List Token) (m : Module) (items : List Item) (p : Project) → length text < 2 ^ 64 → Tokens text ts → Spells m ts → IsModule m items → IsProgram (codes "Main") items p → CanBeSpelled p }
 {}
 
 /// A text has at least as many bytes as tokens, and a module declares at most as many items as it has tokens.

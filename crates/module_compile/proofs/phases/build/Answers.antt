@@ -7,10 +7,8 @@ use Rattle.elm_tree.specs.View.{module_view}
 use Rattle.elm_tree.specs.Resolve.{are_distinct}
 use Rattle.program_laws.specs.Link.{item_name}
 use Rattle.program_laws.specs.Checked.{AreTyped}
-use Rattle.program_laws.specs.Plain.{ArePlain}
 use Rattle.program_laws.specs.View.{item_view}
 use Rattle.module_items.specs.Items.{IsModule}
-use Rattle.item_laws.proofs.PlainItems.{module_plain}
 use Rattle.text_laws.proofs.Few.{items_few_of}
 use Rattle.module_compile.proofs.Steps.{IsTree, no_tree, no_items, no_types, no_link, items_distinct}
 use Rattle.module_compile.proofs.phases.build.Goals as goal
@@ -20,22 +18,17 @@ returns-in-Err-NotAccepted c = no_tree (map token_view c.args.tokens.now) ((c.in
 
 pub returns-in_default : goal.returns-in_default
 returns-in_default c =
-    let tree : IsTree (map token_view c.args.tokens.now) (module_view c.in-Ok.tree) = record { spelled = c.in-Ok.ensures.tree; shaped = c.in-Ok.ensures.shaped; within = c.in-Ok.ensures.within; simple = c.in-Ok.ensures.simple } in
+    let tree : IsTree (map token_view c.args.tokens.now) (module_view c.in-Ok.tree) = record { spelled = c.in-Ok.ensures.tree; shaped = c.in-Ok.ensures.shaped; within = c.in-Ok.ensures.within } in
     no_items (map token_view c.args.tokens.now) (module_view c.in-Ok.tree) tree ((c.in_ok-items.ensures).none c.in_default.is)
 
-pub are_typed-requires-clause-plain : goal.are_typed-requires-clause-plain
-are_typed-requires-clause-plain c =
-    let is : IsModule (module_view c.in-Ok.tree) (map item_view c.in-Some.items.items) = subst (λ r. IfSome r (λ items. IsModule (module_view c.in-Ok.tree) (map item_view items.items))) c.in-Some.is (c.in_ok-items.ensures).some in
-    subst (λ items. ArePlain (map item_view items)) (sym c.deref.ensures.value) (module_plain (module_view c.in-Ok.tree) (map item_view c.in-Some.items.items) is)
-
-pub are_typed-requires-clause-distinct : goal.are_typed-requires-clause-distinct
-are_typed-requires-clause-distinct c =
+pub are_typed-requires : goal.are_typed-requires
+are_typed-requires c =
     let is : IsModule (module_view c.in-Ok.tree) (map item_view c.in-Some.items.items) = subst (λ r. IfSome r (λ items. IsModule (module_view c.in-Ok.tree) (map item_view items.items))) c.in-Some.is (c.in_ok-items.ensures).some in
     subst (λ items. are_distinct (map item_name (map item_view items)) ≡ true) (sym c.deref.ensures.value) (items_distinct (module_view c.in-Ok.tree) (map item_view c.in-Some.items.items) is)
 
 pub returns-then-not-branch : goal.returns-then-not-branch
 returns-then-not-branch c =
-    let tree : IsTree (map token_view c.args.tokens.now) (module_view c.in-Ok.tree) = record { spelled = c.in-Ok.ensures.tree; shaped = c.in-Ok.ensures.shaped; within = c.in-Ok.ensures.within; simple = c.in-Ok.ensures.simple } in
+    let tree : IsTree (map token_view c.args.tokens.now) (module_view c.in-Ok.tree) = record { spelled = c.in-Ok.ensures.tree; shaped = c.in-Ok.ensures.shaped; within = c.in-Ok.ensures.within } in
     let is : IsModule (module_view c.in-Ok.tree) (map item_view c.in-Some.items.items) = subst (λ r. IfSome r (λ items. IsModule (module_view c.in-Ok.tree) (map item_view items.items))) c.in-Some.is (c.in_ok-items.ensures).some in
     no_types (map token_view c.args.tokens.now) (module_view c.in-Ok.tree) (map item_view c.in-Some.items.items) tree is
     (subst (λ items. AreTyped (codes "Main") (map item_view items) → ⊥) c.deref.ensures.value ((c.in_ok-are_typed.ensures).refused c.if-not-branch.true))
@@ -49,6 +42,6 @@ link-requires c =
 
 pub returns : goal.returns
 returns c =
-    let tree : IsTree (map token_view c.args.tokens.now) (module_view c.in-Ok.tree) = record { spelled = c.in-Ok.ensures.tree; shaped = c.in-Ok.ensures.shaped; within = c.in-Ok.ensures.within; simple = c.in-Ok.ensures.simple } in
+    let tree : IsTree (map token_view c.args.tokens.now) (module_view c.in-Ok.tree) = record { spelled = c.in-Ok.ensures.tree; shaped = c.in-Ok.ensures.shaped; within = c.in-Ok.ensures.within } in
     let is : IsModule (module_view c.in-Ok.tree) (map item_view c.in-Some.items.items) = subst (λ r. IfSome r (λ items. IsModule (module_view c.in-Ok.tree) (map item_view items.items))) c.in-Some.is (c.in_ok-items.ensures).some in
     no_link (map token_view c.args.tokens.now) (module_view c.in-Ok.tree) (map item_view c.in-Some.items.items) tree is ((c.in_ok-project.ensures).none c.in-None.is)

@@ -21,13 +21,13 @@ pub returns-in-Ok-clause-made : goal.returns-in-Ok-clause-made
 returns-in-Ok-clause-made c =
     let cut : IsCutInto c.args.text.now (map token_view c.deref.result.now) = subst (λ xs. IsCutInto c.args.text.now (map token_view xs)) (sym c.deref.ensures.value) (record { found = c.in-Ok.ensures.found; only = c.in-Ok.ensures.only }) in
     of_ok (λ made. IsBuiltOf (map token_view c.deref.result.now) (made_view made)) (λ made. IsMade (Some c.args.text.now) (made_view made)) c.build.result
-    (λ made b. is_made c.args.text.now (map token_view c.deref.result.now) (made_view made) cut b) c.build.ensures
+    (λ made b. is_made c.args.text.now (map token_view c.deref.result.now) (made_view made) c.requires cut b) c.build.ensures
 
 pub returns-in-Ok-clause-only : goal.returns-in-Ok-clause-only
 returns-in-Ok-clause-only c =
     let cut : IsCutInto c.args.text.now (map token_view c.deref.result.now) = subst (λ xs. IsCutInto c.args.text.now (map token_view xs)) (sym c.deref.ensures.value) (record { found = c.in-Ok.ensures.found; only = c.in-Ok.ensures.only }) in
     of_ok (λ made. IsBuiltOf (map token_view c.deref.result.now) (made_view made)) (λ made. (other : PlainResult) → IsMade (Some c.args.text.now) other → other ≡ made_view made) c.build.result
-    (λ made b. made_only c.args.text.now (map token_view c.deref.result.now) (made_view made) cut b) c.build.ensures
+    (λ made b. made_only c.args.text.now (map token_view c.deref.result.now) (made_view made) c.requires cut b) c.build.ensures
 
 pub returns-in-Ok-clause-exact : goal.returns-in-Ok-clause-exact
 returns-in-Ok-clause-exact c =
