@@ -124,7 +124,6 @@ fn refuses_faults_of_names_groups_and_types(rt: HostRuntime) -> Result<(), Fail>
         ("n : Int\nn = main\n", "1"),
         ("n : Float\nn = 1\n", "1"),
         ("f : Int ->\nf x = x\n", "1"),
-        ("f : Int -> Int\nf _ = 1\n", "1"),
         ("f : Int -> Int\nf x = x +\n", "1"),
         ("f : Int -> Int\nf x =\nx\n", "1"),
         ("port p : Int -> Cmd Int\n", "1"),

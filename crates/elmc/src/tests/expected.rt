@@ -1,7 +1,7 @@
 //! The output of the example's program, round the JavaScript of the number that it sends.
 
-/// What stands before the line of `main`.
-pub const FRONT: &[u8] = br##"(function(scope){"use strict";
+/// The fixed text that an output begins with.
+pub const HEAD: &[u8] = br##"(function(scope){"use strict";
 const _crash=t=>{throw new Error(t);};
 const _quot=(a,b)=>(a/b)|0;
 const _rem=(d,x)=>x%d;
@@ -57,7 +57,10 @@ const _eMaybe=e=>v=>v["$"]===0?e(v["a0"]):null;
 const _eList=e=>v=>_array(v).map(x=>e(x));
 const _eTuple=(...es)=>v=>es.map((e,i)=>e(v["a"+i]));
 const _eRecord=(...f)=>v=>{const r={};for(let i=0;i<f.length;i+=2){r[f[i]]=f[i+1](v[f[i]]);}return r;};
-const Platform$Cmd$none={"$":1,"a0":{"$":0}};
+"##;
+
+/// The lines of the core values and of the example's port.
+pub const FRONT: &[u8] = br##"const Platform$Cmd$none={"$":1,"a0":{"$":0}};
 const Platform$Sub$none={"$":1,"a0":{"$":0}};
 const Platform$worker=($$0=>{return {"$":0,"a0":$$0};});
 const Main$out=($$0=>{return {"$":0,"a0":"out","a1":_eSame()($$0)};});
@@ -67,11 +70,14 @@ const Main$out=($$0=>{return {"$":0,"a0":"out","a1":_eSame()($$0)};});
 pub const MAIN: &[u8] =
     br##"const Main$main=Platform$worker({"init":($$0=>{return {"$":0,"a0":0,"a1":Main$out("##;
 
-/// What stands behind the number.
+/// What stands behind the number, up to the line of `_main`.
 pub const BACK: &[u8] =
     br##")};}),"update":($$1=>{return ($m=>{return {"$":0,"a0":$m,"a1":Platform$Cmd$none};});}),"subscriptions":($$2=>{return Platform$Sub$none;})});
 const _main={"name":"Main","program":Main$main,"flags":_dAny(),"ins":{},"outs":{"out":0}};
-const _flat=(b,o)=>{if(b["$"]===0){o.push(b);}else{for(const x of _array(b["a0"])){_flat(x,o);}}return o;};
+"##;
+
+/// The fixed text that an output ends with.
+pub const TAIL: &[u8] = br##"const _flat=(b,o)=>{if(b["$"]===0){o.push(b);}else{for(const x of _array(b["a0"])){_flat(x,o);}}return o;};
 const _init=o=>{
 const f=_main["flags"](o?o["flags"]:null);
 if(f===undefined){throw new Error("flags refused");}

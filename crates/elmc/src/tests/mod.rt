@@ -5,6 +5,7 @@ mod definitions;
 mod expected;
 mod failures;
 mod texts;
+mod workers;
 
 use crate::program::top;
 use build_workers::OpenGate;
@@ -127,10 +128,18 @@ fn output(alloc: Global, argument: &str) -> Result<Vec<u8>, AllocError> {
 
 /// The same with the lines of definitions before that of `main`.
 fn output_with(alloc: Global, lines: &str, argument: &str) -> Result<Vec<u8>, AllocError> {
-    let mut text = Vec::from_slice(alloc, expected::FRONT)?;
-    text.extend_from_slice(lines.as_bytes())?;
-    text.extend_from_slice(expected::MAIN)?;
-    text.extend_from_slice(argument.as_bytes())?;
-    text.extend_from_slice(expected::BACK)?;
+    let mut body = Vec::from_slice(alloc, expected::FRONT)?;
+    body.extend_from_slice(lines.as_bytes())?;
+    body.extend_from_slice(expected::MAIN)?;
+    body.extend_from_slice(argument.as_bytes())?;
+    body.extend_from_slice(expected::BACK)?;
+    output_of(alloc, &body)
+}
+
+/// The output with these lines between the fixed texts.
+fn output_of(alloc: Global, body: &[u8]) -> Result<Vec<u8>, AllocError> {
+    let mut text = Vec::from_slice(alloc, expected::HEAD)?;
+    text.extend_from_slice(body)?;
+    text.extend_from_slice(expected::TAIL)?;
     Ok(text)
 }
