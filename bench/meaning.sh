@@ -84,4 +84,71 @@ compare "(next 1$(for _ in $(seq 999); do printf ' + next 1'; done))" 2000 'next
 next n = n + 1
 '
 
+compare '(add 1 2)' 3 'add : Int -> Int -> Int
+add = \x -> \y -> x + y
+'
+compare '(k 7 ())' 7 'k : Int -> () -> Int
+k x _ = x
+'
+compare '(apply (\n -> ( n, () )))' 4 'apply : (Int -> ( Int, () )) -> Int
+apply f = (\_ -> 4) (f 1)
+'
+compare '(use r)' 9 'r : { f : Int -> Int, n : Int }
+r = { n = 1, f = \x -> x + 1 }
+use : { n : Int, f : Int -> Int } -> Int
+use _ = 9
+'
+compare '(compose (\x -> x + 1) (\y -> y + y) 5)' 11 'compose : (Int -> Int) -> (Int -> Int) -> Int -> Int
+compose f g x = f (g x)
+'
+compare '(three ( 1, 2, 3 ))' 3 'three : ( Int, Int, Int ) -> Int
+three _ = 3
+'
+compare '((\p -> p 1 2) (\x y -> x + y))' 3
+compare '((\f _ -> f ()) (\_ -> 6) { a = {}, b = ( (), 1 ) })' 6
+
+compare_module() { # WANTED FLAGS MODULE, which has a port `out`, and maybe a port `done`
+    printf '%s\n' "$3" >"$folder/src/Main.elm"
+    (cd "$folder" && "$root/elmc" make src/Main.elm --output=out.js >/dev/null)
+    local seen
+    seen="$(cd "$folder" && node -e '
+        try {
+            const { ports } = require("./out.js").Elm.Main.init({ flags: JSON.parse(process.argv[1]) });
+            for (const name of Object.keys(ports)) ports[name].subscribe(v => console.log(name + " " + JSON.stringify(v)));
+        } catch (error) { console.log(error.message); }' "$2")"
+    if [ "$seen" != "$1" ]; then
+        echo "flags $2: node prints $seen, the written meaning is $1" >&2
+        exit 1
+    fi
+    count=$((count + 1))
+}
+
+with_flags='port module Main exposing (..)
+
+port done : () -> Cmd msg
+
+port out : Int -> Cmd msg
+
+main : Program Int ( Int, () ) ()
+main =
+    Platform.worker
+        { update = \_ model -> ( model, done () )
+        , init = \n -> ( ( n, () ), out (n + 1) )
+        , subscriptions = \_ -> Sub.none
+        }
+'
+compare_module 'out 6' 5 "$with_flags"
+compare_module 'flags refused' null "$with_flags"
+compare_module 'flags refused' true "$with_flags"
+compare_module 'flags refused' 9007199254740992 "$with_flags"
+compare_module 'done null' null 'port module Main exposing (main)
+
+port done : () -> Cmd msg
+
+main : Program () {} ()
+main =
+    Platform.worker
+        { init = \_ -> ( {}, done () ), update = \_ m -> ( m, Cmd.none ), subscriptions = \_ -> Sub.none }
+'
+
 echo "node agrees on $count programs"

@@ -78,15 +78,27 @@ fn both_run(
     wanted: &Trace,
 ) -> Result<bool, Fail> {
     let text = module(alloc, definitions, argument)?;
+    text_runs(alloc, &text, &Wire::Null, source_fuel, budget, wanted)
+}
+
+/// The same of a whole module with these flags.
+fn text_runs(
+    alloc: Global,
+    text: &str,
+    flags: &Wire,
+    source_fuel: u64,
+    budget: u64,
+    wanted: &Trace,
+) -> Result<bool, Fail> {
     if text.len() > 4_194_304 {
         return Ok(false);
     }
     let Made::Good(project) = compile(alloc, text.as_bytes())? else {
         return Ok(false);
     };
-    let source = elm_evaluator::run::run(alloc, &project, &Wire::Null, &[], source_fuel, DEPTH)?;
+    let source = elm_evaluator::run::run(alloc, &project, flags, &[], source_fuel, DEPTH)?;
     let program = emit(alloc, &project)?;
-    let target = js_evaluator::run::run(alloc, &program, &Wire::Null, &[], budget, DEPTH)?;
+    let target = js_evaluator::run::run(alloc, &program, flags, &[], budget, DEPTH)?;
     Ok(same(&source, wanted) && same(&target, wanted))
 }
 
@@ -182,6 +194,97 @@ fn endless_recursion_runs_out_of_fuel(rt: HostRuntime) -> Result<(), Fail> {
             );
         }
     }
+    Ok(())
+}
+
+#[test]
+fn tuples_records_and_lambdas_run(rt: HostRuntime) -> Result<(), Fail> {
+    let alloc = rt.alloc();
+    let cases: [(&str, &str, i64); 8] = [
+        ("add : Int -> Int -> Int\nadd = \\x -> \\y -> x + y\n", "(add 1 2)", 3),
+        ("k : Int -> () -> Int\nk x _ = x\n", "(k 7 ())", 7),
+        (
+            "apply : (Int -> ( Int, () )) -> Int\napply f = (\\_ -> 4) (f 1)\n",
+            "(apply (\\n -> ( n, () )))",
+            4,
+        ),
+        (
+            "r : { f : Int -> Int, n : Int }\nr = { n = 1, f = \\x -> x + 1 }\nuse : { n : Int, f : Int -> Int } -> Int\nuse _ = 9\n",
+            "(use r)",
+            9,
+        ),
+        (
+            "compose : (Int -> Int) -> (Int -> Int) -> Int -> Int\ncompose f g x = f (g x)\n",
+            "(compose (\\x -> x + 1) (\\y -> y + y) 5)",
+            11,
+        ),
+        ("three : ( Int, Int, Int ) -> Int\nthree _ = 3\n", "(three ( 1, 2, 3 ))", 3),
+        ("", "((\\p -> p 1 2) (\\x y -> x + y))", 3),
+        ("", "((\\f _ -> f ()) (\\_ -> 6) { a = {}, b = ( (), 1 ) })", 6),
+    ];
+    for (definitions, argument, number) in cases {
+        let wanted = sends(alloc, number)?;
+        assert!(rt;
+            both_run(alloc, definitions, argument, 20, 40, &wanted)?,
+            "{argument}"
+        );
+    }
+    Ok(())
+}
+
+/// A worker whose flags are a number, which it sends increased, and `()` with it.
+const WITH_FLAGS: &str = r#"port module Main exposing (..)
+
+port done : () -> Cmd msg
+
+port out : Int -> Cmd msg
+
+main : Program Int ( Int, () ) ()
+main =
+    Platform.worker
+        { update = \_ model -> ( model, done () )
+        , init = \n -> ( ( n, () ), out (n + 1) )
+        , subscriptions = \_ -> Sub.none
+        }
+"#;
+
+#[test]
+fn flags_are_read(rt: HostRuntime) -> Result<(), Fail> {
+    let alloc = rt.alloc();
+    let started = sends(alloc, 6)?;
+    assert!(rt; text_runs(alloc, WITH_FLAGS, &Wire::Int(5), 9, 9, &started)?);
+    let refused = ends(alloc, Last::FlagsRefused);
+    for flags in [Wire::Null, Wire::Bool(true), Wire::Int(9007199254740992)] {
+        assert!(rt; text_runs(alloc, WITH_FLAGS, &flags, 9, 9, &refused)?);
+    }
+    let unsafe_end = ends(alloc, Last::NotSafe);
+    let largest = Wire::Int(9007199254740991);
+    assert!(rt; text_runs(alloc, WITH_FLAGS, &largest, 9, 9, &unsafe_end)?);
+    Ok(())
+}
+
+/// A worker that sends `()` as it starts.
+const UNIT: &str = r#"port module Main exposing (main)
+
+port done : () -> Cmd msg
+
+main : Program () {} ()
+main =
+    Platform.worker
+        { init = \_ -> ( {}, done () ), update = \_ m -> ( m, Cmd.none ), subscriptions = \_ -> Sub.none }
+"#;
+
+#[test]
+fn unit_is_sent_as_null(rt: HostRuntime) -> Result<(), Fail> {
+    let alloc = rt.alloc();
+    let port = Units::from_vec(vec![in alloc; 100, 111, 110, 101]?);
+    let value = Wire::Null;
+    let events = vec![in alloc; Event::Sent { port, value }]?;
+    let wanted = Trace {
+        events,
+        last: Last::Ready,
+    };
+    assert!(rt; text_runs(alloc, UNIT, &Wire::Null, 9, 9, &wanted)?);
     Ok(())
 }
 
