@@ -2,7 +2,7 @@
 use Rattle.std.proofs.Common.{◌≡◌, ℕ, ◌+◌, List, [], ◌∷◌, Bool, true, false, not, refl, ap, ◌∙◌, subst}
 use Rattle.std.specs.Prelude.{if◌then◌else◌, ◌&&◌}
 use Rattle.std.proofs.lemmas.Bool.{and_from, or_left, or_right}
-use Rattle.elm_canon.specs.Tree.{Ref, same_ref, Pattern, Named, Anything, Expr, Int, Var, Lambda, Apply, Binary, UnitOf, Pair, Triple, Record, Exprs, NoExpr, MoreExpr, Fields, NoField, MoreField, Defs, NoDef, MoreDef, IntPayload, Known, Wrapper, EmptyBatch, OutPort, Group, Functions, Constant, Given}
+use Rattle.elm_canon.specs.Tree.{Ref, same_ref, Pattern, Named, Anything, Expr, Int, Var, Lambda, Apply, Binary, UnitOf, Pair, Triple, Record, Exprs, NoExpr, MoreExpr, Fields, NoField, MoreField, Defs, NoDef, MoreDef, IntPayload, UnitPayload, Known, Wrapper, EmptyBatch, OutPort, Group, Functions, Constant, Given}
 use Rattle.elm_canon.specs.Tree as source
 use Rattle.js_tree.specs.Tree.{Name, same_name, Js, JArrow, JCall, Stmts, Const, Return}
 use Rattle.js_tree.specs.Subset.{with_declared, is_bound, fields_bound, are_bound}
@@ -92,6 +92,7 @@ known_bound : (names : List Name) (r : Ref) (k : Known) → is_bound names (emit
 known_bound names r (Wrapper k) = refl
 known_bound names r EmptyBatch = refl
 known_bound names r (OutPort IntPayload) = refl
+known_bound names r (OutPort UnitPayload) = refl
 
 -- what the statements declare is among the names
 abbrev Declares : Stmts → List Name → Type 0

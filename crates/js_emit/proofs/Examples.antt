@@ -1,9 +1,9 @@
--- The example program, computed.
+-- The example program, computed; and with other types of its port and its flags.
 use Rattle.std.specs.Prelude.{◌≡◌, ℕ, pos, List, [], ◌∷◌, true, codes, refl}
 use Rattle.std.specs.Fmt.{digits}
 use Rattle.wire_value.specs.Wire.{null, int}
-use Rattle.runs.specs.Trace.{Then, Sent, Ends, Ready, NoFuel}
-use Rattle.elm_canon.specs.Tree.{Local, Top, Named, Anything, Expr, Int, Var, Lambda, Apply, UnitOf, Pair, Record, NoExpr, MoreExpr, NoField, MoreField, IntPayload, AnyFlags, Wrapper, EmptyBatch, OutPort, Constant, Given, Project}
+use Rattle.runs.specs.Trace.{Then, Sent, Ends, Ready, FlagsRefused, NoFuel}
+use Rattle.elm_canon.specs.Tree.{Local, Top, Named, Anything, Expr, Int, Var, Lambda, Apply, UnitOf, Pair, Record, NoExpr, MoreExpr, NoField, MoreField, Payload, IntPayload, UnitPayload, Flags, AnyFlags, IntFlags, Wrapper, EmptyBatch, OutPort, Constant, Given, Project}
 use Rattle.elm_canon.specs.Run.{SourceRun}
 use Rattle.js_tree.specs.Run.{JsRun}
 use Rattle.js_tree.specs.Text.{lines_text}
@@ -20,19 +20,22 @@ main_of a = Apply (Var (Top (codes "Platform") (codes "worker"))) (MoreExpr (Rec
     (MoreField (codes "update") (Lambda Anything (Lambda (Named (codes "m")) (Pair (x (codes "m")) (Var (Top (codes "Platform.Cmd") (codes "none"))))))
     (MoreField (codes "subscriptions") (Lambda Anything (Var (Top (codes "Platform.Sub") (codes "none")))) NoField)))) NoExpr)
 
-abbrev project_of : Expr → Project
-project_of a = record {
+abbrev project_with : Payload → Flags → Expr → Project
+project_with payload flags a = record {
   groups =
       Given (Top (codes "Platform.Cmd") (codes "none")) EmptyBatch
       ∷ Given (Top (codes "Platform.Sub") (codes "none")) EmptyBatch
       ∷ Given (Top (codes "Platform") (codes "worker")) (Wrapper 0)
-      ∷ Given (Top (codes "Main") (codes "out")) (OutPort IntPayload)
+      ∷ Given (Top (codes "Main") (codes "out")) (OutPort payload)
       ∷ Constant (Top (codes "Main") (codes "main")) (main_of a)
       ∷ [];
   main = Top (codes "Main") (codes "main");
   name = codes "Main";
-  flags = AnyFlags;
+  flags = flags;
 }
+
+abbrev project_of : Expr → Project
+project_of a = project_with IntPayload AnyFlags a
 
 scoped : groups_scoped [] (project_of (Int 42)).groups (project_of (Int 42)).main ≡ true
 scoped = refl
@@ -53,3 +56,23 @@ spelled = refl
 in_it : in_subset (Emit (project_of (Int 42))) ≡ true
 unfolding digits
 in_it = refl
+
+-- () goes out as null
+sends_unit : SourceRun (project_with UnitPayload AnyFlags UnitOf) null [] 5 ≡ Then (Sent (codes "out") null) (Ends Ready)
+sends_unit = refl
+
+sends_unit_js : JsRun (Emit (project_with UnitPayload AnyFlags UnitOf)) null [] 7 ≡ Then (Sent (codes "out") null) (Ends Ready)
+sends_unit_js = refl
+
+-- flags that are no integer are refused
+refused : SourceRun (project_with UnitPayload IntFlags UnitOf) null [] 5 ≡ Ends FlagsRefused
+refused = refl
+
+refused_js : JsRun (Emit (project_with UnitPayload IntFlags UnitOf)) null [] 7 ≡ Ends FlagsRefused
+refused_js = refl
+
+taken : SourceRun (project_with UnitPayload IntFlags UnitOf) (int (pos 3)) [] 5 ≡ Then (Sent (codes "out") null) (Ends Ready)
+taken = refl
+
+taken_js : JsRun (Emit (project_with UnitPayload IntFlags UnitOf)) (int (pos 3)) [] 7 ≡ Then (Sent (codes "out") null) (Ends Ready)
+taken_js = refl

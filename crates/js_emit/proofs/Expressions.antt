@@ -4,12 +4,12 @@ use Rattle.std.specs.Prelude.{codes}
 use Rattle.runs.specs.Ends.{End, Val, Crashed, OutOfFuel, Unsafe, Stuck, then_do, Metered, MVal, MOut, and_then, with_budget}
 use Rattle.runs.specs.Pay.{Spends, Follows, gives, crashes, starves, unclaimed_unsafe, unclaimed_stuck}
 use Rattle.runs.proofs.Spends.{spends_none, spends_on, spends_then, spends_same, spends_call, behind, follows_after, follows_then, follows_behind}
-use Rattle.elm_canon.specs.Tree.{Ref, Expr, Int, Var, Lambda, Apply, Binary, UnitOf, Pair, Triple, Record, Exprs, NoExpr, MoreExpr, Fields, NoField, MoreField, IntPayload}
+use Rattle.elm_canon.specs.Tree.{Ref, Expr, Int, Var, Lambda, Apply, Binary, UnitOf, Pair, Triple, Record, Exprs, NoExpr, MoreExpr, Fields, NoField, MoreField, IntPayload, UnitPayload}
 use Rattle.elm_canon.specs.Values.{Value, Env}
 use Rattle.elm_canon.specs.Eval.{eval_with, apply_with, fields_with, enter, call_at, pair_of, triple_of}
-use Rattle.js_tree.specs.Tree.{Name, Js, JCall, Stmts, Return, EncodeSame}
+use Rattle.js_tree.specs.Tree.{Name, Js, JCall, Stmts, Return, Helper, EncodeSame, EncodeNull}
 use Rattle.js_tree.specs.Tree as js
-use Rattle.js_tree.specs.Values.{JVal, JNumV, JTextV, JObjV, JCloV, JHelperV, JFields, NoJField, MoreJField, JEnv, JBind, JBindRun, JHide, put_field}
+use Rattle.js_tree.specs.Values.{JVal, JNumV, JNullV, JTextV, JObjV, JCloV, JHelperV, JFields, NoJField, MoreJField, JEnv, JBind, JBindRun, JHide, put_field}
 use Rattle.js_tree.specs.Eval.{j_eval, j_fields, j_block, j_enter, j_call}
 use Rattle.js_emit.specs.Emit.{made_in, js_parameter, behind_parameter, field_name, tagged, now, emit, emit_calls, emit_fields}
 use Rattle.js_emit.specs.Scoped.{with_parameter, is_scoped, all_scoped, fields_scoped}
@@ -54,14 +54,14 @@ tag_first k vs m = and_then (with_budget (put_field (codes "$") (JNumV (pos k)) 
 behind_tag : {A : Type 0} {S : A → JVal → Type 0} {n : ℕ} {o : End A} (k : ℕ) (fs : js.Fields) (env : JEnv) → Follows S n o (λ b m. and_then (j_fields (j_call b) fs env m) (tag_first k)) → Follows S n o (λ b m. j_eval (j_call b) (tagged k fs) env m)
 behind_tag k fs env f = follows_after (spends_same (λ b m. and_and (j_fields (j_call b) fs env m) _ _)) f
 
--- an encoder that gives its value back takes one call
-encoded : (w : JVal) → Spends (λ b m. j_call b (JHelperV EncodeSame) w m) (λ _ m. MVal w m)
-encoded w = spends_on (spends_same same) (spends_call (λ m. MVal w m) spends_none)
+-- an encoder takes one call
+encoded : (h : Helper) (w x : JVal) → ((go : Stmts → JEnv → ℕ → Metered JVal) (m : ℕ) → j_enter go (JHelperV h) w m ≡ MVal x m) → Spends (λ b m. j_call b (JHelperV h) w m) (λ _ m. MVal x m)
+encoded h w x gives_it = spends_on (spends_same same) (spends_call (λ m. MVal x m) spends_none)
   where
-    same : (b m : ℕ) → j_call b (JHelperV EncodeSame) w m ≡ behind (λ _ m. MVal w m) b m
+    same : (b m : ℕ) → j_call b (JHelperV h) w m ≡ behind (λ _ m. MVal x m) b m
     same zero m = refl
     same (suc b) zero = refl
-    same (suc b) (suc m) = refl
+    same (suc b) (suc m) = gives_it (j_block (j_call b)) m
 
 module _ (outs : List (List ℕ)) where
   module _ (n : ℕ) (calls : (f a : Value) (g w : JVal) → For outs f g → For outs a w → Follows (For outs) n (call_at n f a) (λ b m. j_call b g w m)) where
@@ -133,8 +133,11 @@ module _ (outs : List (List ℕ)) where
         (runs e (behind_parameter d p) (with_parameter p scope) sc _ _ (for_same outs (λ y is. refl) (for_parameter outs d p ra re)))
     entered {w = w} (for_wrapper {k}) ra = gives (tag_value k (MoreJField (field_name 0) w NoJField)) (for_tag (for_more ra for_none)) spends_none
     entered {w = w} (for_port {port} {t = IntPayload} is) (for_int) =
-        gives (tag_value 0 (MoreJField (field_name 0) (JTextV port) (MoreJField (field_name 1) w NoJField))) (for_send is refl) (spends_then _ (spends_then _ (spends_then _ (spends_then _ (encoded w)))))
+        gives (tag_value 0 (MoreJField (field_name 0) (JTextV port) (MoreJField (field_name 1) w NoJField))) (for_send is refl) (spends_then _ (spends_then _ (spends_then _ (spends_then _ (encoded EncodeSame w w (λ go m. refl))))))
     entered (for_port {t = IntPayload} is) _ = unclaimed_stuck
+    entered {w = w} (for_port {port} {t = UnitPayload} is) (for_unit) =
+        gives (tag_value 0 (MoreJField (field_name 0) (JTextV port) (MoreJField (field_name 1) JNullV NoJField))) (for_send is refl) (spends_then _ (spends_then _ (spends_then _ (spends_then _ (encoded EncodeNull w JNullV (λ go m. refl))))))
+    entered (for_port {t = UnitPayload} is) _ = unclaimed_stuck
     entered _ ra = unclaimed_stuck
 
   -- where fuel n is enough for the calls, n + 1 is enough for one more

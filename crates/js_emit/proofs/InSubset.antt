@@ -3,7 +3,7 @@ use Rattle.std.proofs.Common.{◌≡◌, [], true, refl}
 use Rattle.std.specs.Prelude.{◌&&◌}
 use Rattle.std.specs.List.{list_all}
 use Rattle.std.proofs.lemmas.Bool.{and_from}
-use Rattle.elm_canon.specs.Tree.{Flags, AnyFlags, Project}
+use Rattle.elm_canon.specs.Tree.{Flags, AnyFlags, IntFlags, Project}
 use Rattle.js_tree.specs.Subset.{is_unit, is_spelled, are_spelled, with_declared, is_bound, are_bound, in_subset}
 use Rattle.js_emit.specs.Emit.{flags_decoder, emit_groups, out_ports, Emit}
 use Rattle.js_emit.specs.Literals.{ProjectHasExactLiterals}
@@ -16,6 +16,7 @@ use Rattle.js_emit.proofs.Bound.{body_bound}
 -- the decoder of the flags
 flags_fit : (f : Flags) → is_spelled (flags_decoder f) && is_bound [] (flags_decoder f) ≡ true
 flags_fit AnyFlags = refl
+flags_fit IntFlags = refl
 
 pub emitted_in_subset : (p : Project) → IsScoped p → CanBeSpelled p → ProjectHasExactLiterals p → in_subset (Emit p) ≡ true
 emitted_in_subset p sc sp ex =

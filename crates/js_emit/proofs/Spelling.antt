@@ -4,7 +4,7 @@ use Rattle.std.specs.Prelude.{if◌then◌else◌, ◌&&◌}
 use Rattle.std.specs.List.{list_all}
 use Rattle.std.proofs.lemmas.Bool.{ltb-true, lt-ltb, le-leb, and_from}
 use Rattle.std.proofs.lemmas.Bool.Decides.{nat_tests}
-use Rattle.elm_canon.specs.Tree.{Ref, Pattern, Named, Anything, Expr, Int, Var, Lambda, Apply, Binary, UnitOf, Pair, Triple, Record, Exprs, NoExpr, MoreExpr, Fields, NoField, MoreField, Defs, NoDef, MoreDef, IntPayload, Known, Wrapper, EmptyBatch, OutPort, Group, Functions, Constant, Given}
+use Rattle.elm_canon.specs.Tree.{Ref, Pattern, Named, Anything, Expr, Int, Var, Lambda, Apply, Binary, UnitOf, Pair, Triple, Record, Exprs, NoExpr, MoreExpr, Fields, NoField, MoreField, Defs, NoDef, MoreDef, IntPayload, UnitPayload, Known, Wrapper, EmptyBatch, OutPort, Group, Functions, Constant, Given}
 use Rattle.elm_canon.specs.Tree as source
 use Rattle.elm_canon.specs.Run.{name_of}
 use Rattle.js_tree.specs.Tree.{Name, Js, JArrow, JCall, Stmts, Return}
@@ -120,6 +120,7 @@ known_spelled : (r : Ref) (k : Known) → can_spell_name r ≡ true → can_spel
 known_spelled r (Wrapper k) sr sk = and_from (is_exact (pos k)) true sk refl
 known_spelled r EmptyBatch sr sk = refl
 known_spelled r (OutPort IntPayload) sr sk = and_from (list_all is_unit (name_of r)) true (name_of_units r sr) refl
+known_spelled r (OutPort UnitPayload) sr sk = and_from (list_all is_unit (name_of r)) true (name_of_units r sr) refl
 
 -- a group's functions, and what follows them
 defs_spelled : (ds : Defs) (s : Stmts) → can_spell_defs ds ≡ true → DefsHaveExactLiterals ds → are_spelled s ≡ true → are_spelled (emit_defs ds s) ≡ true

@@ -34,6 +34,7 @@ fn flags_decoder(alloc: Global, flags: Flags) -> Js
 {
     match flags {
         Flags::Any => helper(alloc, Helper::DecodeAny),
+        Flags::Int => helper(alloc, Helper::DecodeInt),
     }
 }
 
@@ -148,5 +149,6 @@ fn encoder(alloc: Global, payload: Payload) -> Js
 {
     match payload {
         Payload::Int => helper(alloc, Helper::EncodeSame),
+        Payload::Unit => helper(alloc, Helper::EncodeNull),
     }
 }

@@ -23,7 +23,9 @@ fn helper_bytes(helper: Helper) -> &'static [u8]
 {
     match helper {
         Helper::EncodeSame => b"_eSame",
+        Helper::EncodeNull => b"_eNull",
         Helper::DecodeAny => b"_dAny",
+        Helper::DecodeInt => b"_dInt",
     }
 }
 

@@ -2,8 +2,10 @@
 -- led by that program's text.
 use Rattle.std.proofs.Common.{ℕ, zero, suc, ◌+◌, ◌*◌, ℤ, pos, negsuc, List, [], ◌∷◌, Bool, false, ◌&&◌, ◌==◌, nat_le, if◌then◌else◌}
 use Rattle.std.specs.List.{list_any}
+use Rattle.std.specs.Str.{bytes_eq}
 use Rattle.std.specs.Str.Parse.{digits_value}
-use Rattle.js_tree.specs.Tree.{Name, Top, Local, Made, Plus, Helper, EncodeSame, DecodeAny, Js, JInt, JText, JVar, JArrow, JCall, JBinary, JObject, JHelper, JsList, NoJs, MoreJs, Fields, NoField, MoreField, Stmts, Const, Return}
+use Rattle.js_tree.specs.Tree.{Name, Top, Local, Made, Plus, Helper, EncodeSame, EncodeNull, DecodeAny, DecodeInt, Js, JInt, JText, JVar, JArrow, JCall, JBinary, JObject, JHelper, JsList, NoJs, MoreJs, Fields, NoField, MoreField, Stmts, Const, Return}
+use Rattle.js_tree.specs.Text.{helper_text}
 use Rattle.js_tree.proofs.Basics.{is_run, hex_value}
 
 -- what a name's characters are read as: as they are; behind a $; behind $$, with so many digits to come after the next
@@ -50,10 +52,11 @@ begins f (c ∷ cs) = f c
 abbrev pub is_digit : ℕ → Bool
 is_digit c = nat_le 48 c && nat_le c 57
 
--- the function of the fixed text, by its second character
+-- the function of the fixed text, by its name
 abbrev pub helper_of : List ℕ → Helper
-helper_of [] = DecodeAny
-helper_of (c ∷ cs) = if begins (λ d. d == 101) cs then EncodeSame else DecodeAny
+helper_of w =
+    if bytes_eq w (helper_text EncodeSame) then EncodeSame
+    else (if bytes_eq w (helper_text EncodeNull) then EncodeNull else (if bytes_eq w (helper_text DecodeInt) then DecodeInt else DecodeAny))
 
 abbrev pub minus : ℕ → ℤ
 minus zero = pos zero

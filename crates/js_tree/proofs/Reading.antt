@@ -3,7 +3,7 @@ use Rattle.std.proofs.Common.{◌≡◌, ℕ, List, [], ◌∷◌, ◌++◌, tru
 use Rattle.std.proofs.lemmas.List.{append_cancel_left}
 use Rattle.std.specs.List.{list_all}
 use Rattle.js_tree.specs.declared.runtime.TheConstants.{HEAD, TAIL}
-use Rattle.js_tree.specs.Tree.{Name, Plus, Helper, EncodeSame, DecodeAny, Js, JInt, JText, JVar, JArrow, JCall, JBinary, JObject, JHelper, JsList, NoJs, MoreJs, Fields, NoField, MoreField, Stmts, Const, Return, Program}
+use Rattle.js_tree.specs.Tree.{Name, Plus, Helper, EncodeSame, EncodeNull, DecodeAny, DecodeInt, Js, JInt, JText, JVar, JArrow, JCall, JBinary, JObject, JHelper, JsList, NoJs, MoreJs, Fields, NoField, MoreField, Stmts, Const, Return, Program}
 use Rattle.js_tree.specs.Text.{js_text, list_text, more_text, fields_text, more_fields_text, stmts_text, name_text, text_text, outs_fields, main_object, lines_text, JsText}
 use Rattle.js_tree.specs.Subset.{is_unit, is_name, is_spelled, list_spelled, fields_spelled, are_spelled, are_bound, is_bound, fields_bound, with_declared, in_subset}
 use Rattle.js_tree.proofs.Basics.{and_true}
@@ -79,7 +79,9 @@ mutual
       ∙ (read_js a (LeftIn k) (43 ∷ (js_text b ++ 41 ∷ rest)) w.0 refl ∙ read_js b (RightOf a k) (41 ∷ rest) w.1 refl)
   read_js (JObject fs) k rest h stop = along (Want k) (object_parts (fields_text fs) rest) ∙ read_fields fs (λ gs. gs) k rest h
   read_js (JHelper EncodeSame es) k rest h stop = along (Want k) (helper_parts (codes "_eSame") (list_text es) rest) ∙ read_list es EncodeSame (λ fs. fs) k rest h
+  read_js (JHelper EncodeNull es) k rest h stop = along (Want k) (helper_parts (codes "_eNull") (list_text es) rest) ∙ read_list es EncodeNull (λ fs. fs) k rest h
   read_js (JHelper DecodeAny es) k rest h stop = along (Want k) (helper_parts (codes "_dAny") (list_text es) rest) ∙ read_list es DecodeAny (λ fs. fs) k rest h
+  read_js (JHelper DecodeInt es) k rest h stop = along (Want k) (helper_parts (codes "_dInt") (list_text es) rest) ∙ read_list es DecodeInt (λ fs. fs) k rest h
 
   pub read_list : (es : JsList) (helper : Helper) (before : JsList → JsList) (k : Frames) (rest : List ℕ) → list_spelled es ≡ true
       → run (Want (GivenTo helper before k)) (list_text es ++ 41 ∷ rest) ≡ run (Have (JHelper helper (before es)) k) rest
