@@ -1,6 +1,7 @@
 pub mod Names
 pub mod Reached
 pub mod Places
+pub mod Used
 pub mod Scoped
 pub mod Contexts
 pub mod Groups

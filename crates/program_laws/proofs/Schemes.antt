@@ -43,28 +43,28 @@ scheme_stays r b context s e = at (same_ref r b.0)
 
 -- the type of an item
 abbrev pub type_of : Item → ElmType
-type_of (PortItem x) = port_type IntPayload
+type_of (PortItem x p) = port_type p
 type_of (ValueItem x t c) = t
 
 scheme_is : (m : List ℕ) (item : Item) → (Top m (item_name item), Every (type_of item)) ≡ item_scheme m item
-scheme_is m (PortItem x) = refl
+scheme_is m (PortItem x p) = refl
 scheme_is m (ValueItem x t c) = refl
 
 module _ (m : List ℕ) where
   -- each item's name has its type, where no two items have one name
-  pub scheme_of_item : (items : List Item) (rest : Context) (i : ℕ) → are_distinct (map item_name items) ≡ true → i < length items → scheme_of (Top m (item_name (slice_index_or items i (PortItem [])))) (map (item_scheme m) items ++ rest) ≡ Some (Every (type_of (slice_index_or items i (PortItem []))))
+  pub scheme_of_item : (items : List Item) (rest : Context) (i : ℕ) → are_distinct (map item_name items) ≡ true → i < length items → scheme_of (Top m (item_name (slice_index_or items i (PortItem [] IntPayload)))) (map (item_scheme m) items ++ rest) ≡ Some (Every (type_of (slice_index_or items i (PortItem [] IntPayload))))
   scheme_of_item [] rest i d l = absurd (omega arith)
   scheme_of_item (item ∷ items) rest zero d l =
       subst (λ b. scheme_of (Top m (item_name item)) (b ∷ (map (item_scheme m) items ++ rest)) ≡ Some (Every (type_of item))) (scheme_is m item)
       (scheme_first (Top m (item_name item)) (Top m (item_name item), Every (type_of item)) (map (item_scheme m) items ++ rest) refl)
   scheme_of_item (item ∷ items) rest (suc i) d l =
       let r = and_parts (not (is_among (item_name item) (map item_name items))) (are_distinct (map item_name items)) d in
-      let x = item_name (slice_index_or items i (PortItem [])) in
+      let x = item_name (slice_index_or items i (PortItem [] IntPayload)) in
       let k : i < length items = omega arith in
       let other : Top m x ≡ Top m (item_name item) → ⊥ =
       λ e. among_behind (item_name item) (map item_name items) i (not-true (is_among (item_name item) (map item_name items)) r.0) (omega (arith, k, length-map items item_name))
-      (sym (same_top m x (item_name item) e) ∙ sym (get_or-map item_name items i (PortItem []) [] k)) in
-      subst (λ b. scheme_of (Top m x) (b ∷ (map (item_scheme m) items ++ rest)) ≡ Some (Every (type_of (slice_index_or items i (PortItem []))))) (scheme_is m item)
+      (sym (same_top m x (item_name item) e) ∙ sym (get_or-map item_name items i (PortItem [] IntPayload) [] k)) in
+      subst (λ b. scheme_of (Top m x) (b ∷ (map (item_scheme m) items ++ rest)) ≡ Some (Every (type_of (slice_index_or items i (PortItem [] IntPayload))))) (scheme_is m item)
       (scheme_behind (Top m x) (Top m (item_name item), Every (type_of item)) (map (item_scheme m) items ++ rest) other ∙ scheme_of_item items rest i r.1 k)
 
   -- what has a type is a name
@@ -94,7 +94,7 @@ module _ (m : List ℕ) where
       (scheme_behind r (Top m (item_name item), Every (type_of item)) (map (item_scheme m) items ++ rest) (f (item_name item)) ∙ core_behind items rest r f)
 
   -- items have their types, one by one
-  pub typed_at : (context : Context) (items : List Item) (i : ℕ) → HaveTheirTypes context items → HasItsType context (slice_index_or items i (PortItem []))
+  pub typed_at : (context : Context) (items : List Item) (i : ℕ) → HaveTheirTypes context items → HasItsType context (slice_index_or items i (PortItem [] IntPayload))
   typed_at context [] i h = tt
   typed_at context (item ∷ items) zero h = h.0
   typed_at context (item ∷ items) (suc i) h = typed_at context items i h.1
