@@ -1,8 +1,8 @@
 use Rattle.std.proofs.Common.{◌∙◌, sym, arith}
 use Rattle.std.proofs.lemmas.Bool.Decides.{nat_tests}
-use Rattle.expr_parser.proofs.Taken.{no_token, outside_token, other_token}
-use Rattle.expr_parser.proofs.token_words.words.Goals.{in_default-via-then-rest-lt1, in_default-via-in-len1-up+then-token-gt1+else-is_word, in_default-via-in-len1-up+else-token-gt1}
-use Rattle.expr_parser.proofs.token_words.words.Goals as goal
+use Rattle.token_reader.proofs.Taken.{no_token, outside_token, other_token}
+use Rattle.token_reader.proofs.token_words.words.Goals.{in_default-via-then-rest-lt1, in_default-via-in-len1-up+then-token-gt1+else-is_word, in_default-via-in-len1-up+else-token-gt1}
+use Rattle.token_reader.proofs.token_words.words.Goals as goal
 
 pub returns-in_default : goal.returns-in_default
 returns-in_default c =

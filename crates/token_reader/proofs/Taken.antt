@@ -13,8 +13,8 @@ use Rattle.elm_lexer.specs.Tokens.{Token}
 use Rattle.elm_lexer.specs.View.{token_view}
 use Rattle.elm_tree.specs.Words.{Word, TextOf, NumberOf, Words}
 use Rattle.elm_tree.specs.Spells.{IsWord, Begins, Fits, FitsLine}
-use Rattle.expr_parser.specs.Reading.{same_kind, is_word, take_at, is_inside, is_outside, take_words, take_line, word_of}
-use Rattle.expr_parser.proofs.SameKind.{same_kind-refl, same_kind_is, no}
+use Rattle.token_reader.specs.Reading.{same_kind, is_word, take_at, is_inside, is_outside, take_words, take_line, word_of}
+use Rattle.token_reader.proofs.SameKind.{same_kind-refl, same_kind_is, no}
 
 -- ---- tests
 
@@ -27,11 +27,11 @@ all_of a b p q = ap (λ x. x && b) p ∙ q
 
 -- ---- one word
 
-word_told : (w : Word) (t : Token) → is_word w t ≡ true → IsWord w t
+pub word_told : (w : Word) (t : Token) → is_word w t ≡ true → IsWord w t
 word_told (TextOf k text) t e = let p = both _ _ e in (same_kind_is _ _ p.0, (bytes_eq-Decides t.text text).0 p.1)
 word_told (NumberOf n) t e = same_kind_is _ _ e
 
-word_tells : (w : Word) (t : Token) → IsWord w t → is_word w t ≡ true
+pub word_tells : (w : Word) (t : Token) → IsWord w t → is_word w t ≡ true
 word_tells (TextOf k text) t h = all_of _ _ (ap (λ j. same_kind j k) h.0 ∙ same_kind-refl k) ((bytes_eq-Decides t.text text).1 h.1)
 word_tells (NumberOf n) t h = ap (λ j. same_kind j (Int n)) h ∙ same_kind-refl (Int n)
 
@@ -51,11 +51,14 @@ module _ (place : ℕ → Bool) (P : ℕ → Type 0) (tells : (c : ℕ) → Deci
 pub inside_tells : (c : ℕ) → Decides (is_inside c) (1 < c)
 inside_tells c = Decides-ltb 1 c
 
-outside_tells : (c : ℕ) → Decides (is_outside c) (c ≡ 1)
+pub outside_tells : (c : ℕ) → Decides (is_outside c) (c ≡ 1)
 outside_tells c = Decides-eqb c 1
 
 pub begins_inside : (w : Word) (ts us : List Token) → take_at is_inside w ts ≡ Some us → Begins (λ c. 1 < c) w ts us
 begins_inside = begins_of is_inside (λ c. 1 < c) inside_tells
+
+pub taken_inside : (w : Word) (ts us : List Token) → Begins (λ c. 1 < c) w ts us → take_at is_inside w ts ≡ Some us
+taken_inside = taken_of is_inside (λ c. 1 < c) inside_tells
 
 -- ---- words
 
@@ -104,6 +107,10 @@ split xs ys ts rest e f = option_and_then_some (take_words ys) (take_words xs ts
 pub one_taken : (w : Word) (ts us : List Token) → take_words (w ∷ []) ts ≡ Some us → Begins (λ c. 1 < c) w ts us
 unfolding take_words
 one_taken w ts us e = option_and_then_some (λ vs. Some vs) (take_at is_inside w ts) us e (λ vs p q. begins_inside w ts us (p ∙ q))
+
+pub one_begun : (w : Word) (ts us : List Token) → Begins (λ c. 1 < c) w ts us → take_words (w ∷ []) ts ≡ Some us
+unfolding take_words
+one_begun w ts us b = ap (option_and_then (λ vs. Some vs)) (taken_inside w ts us b)
 
 -- ---- the loop over words, as it ends at a token that is not the word
 

@@ -1,7 +1,7 @@
 //! Why tokens were not read.
 
 ghost use Rattle.std.specs.Prelude.{◌≡◌};
-ghost use Rattle.expr_parser.specs.declared.error.ParseError.TheVariants.{NoMemory};
+ghost use Rattle.token_reader.specs.declared.error.ParseError.TheVariants.{NoMemory};
 
 use std::alloc::{AllocError, AllocFailed};
 

@@ -3,7 +3,7 @@ use Rattle.std.proofs.Common.{◌≡◌, true, false, refl, ap}
 use Rattle.std.proofs.lemmas.Bool.{eq-eqb, eqb-true}
 use Rattle.elm_lexer.specs.declared.token.Kind.{Kind}
 use Rattle.elm_lexer.specs.declared.token.Kind.TheVariants.{If, Then, Else, Case, Of, Let, In, «Type», Module, Where, Import, Exposing, As, Port, LowerName, UpperName, QualifiedLower, QualifiedUpper, Int, Underscore, OpenParen, CloseParen, OpenBrace, CloseBrace, OpenBracket, CloseBracket, Comma, Backslash, Equals, Arrow, Colon, Bar, Dot, Dots, Operator}
-use Rattle.expr_parser.specs.Reading.{same_kind}
+use Rattle.token_reader.specs.Reading.{same_kind}
 
 pub no : false ≡ true → ⊥
 no e = cc

@@ -1,7 +1,7 @@
 use Rattle.std.proofs.Common.{◌≡◌, drop, map}
 use Rattle.elm_lexer.specs.View.{token_view}
-use Rattle.expr_parser.specs.Reading.{word_of, take_words}
-use Rattle.expr_parser.proofs.token_words.words.Given as goal
+use Rattle.token_reader.specs.Reading.{word_of, take_words}
+use Rattle.token_reader.proofs.token_words.words.Given as goal
 
 -- the words that are left are to be taken from the tokens that are left
 abbrev pub invariant-loop-kind : goal.invariant-loop-kind

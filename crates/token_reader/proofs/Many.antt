@@ -2,9 +2,9 @@
 use Rattle.std.proofs.Common.{◌≡◌, ℕ, zero, suc, ◌+◌, ◌-◌, ◌≤◌, ◌<◌, List, [], ◌∷◌, ◌++◌, length, Option, Some, None, map, refl, sym, ap, subst, ◌∙◌, append_assoc, append-nil, length-append, arith}
 use Rattle.std.proofs.lemmas.Option.{none-some, some_pair_parts}
 use Rattle.elm_lexer.specs.Tokens.{Token}
-use Rattle.expr_parser.specs.declared.error.ParseError.{ParseError}
-use Rattle.expr_parser.specs.declared.error.ParseError.TheVariants.{NoMemory, NotAccepted}
-use Rattle.expr_parser.specs.Reading.{Reader, Fails, follow, going_on, one_and, many_with}
+use Rattle.token_reader.specs.declared.error.ParseError.{ParseError}
+use Rattle.token_reader.specs.declared.error.ParseError.TheVariants.{NoMemory, NotAccepted}
+use Rattle.token_reader.specs.Reading.{Reader, Fails, follow, going_on, one_and, many_with}
 
 pub follow_some : {A B P : Type 0} (o : Option (A × List Token)) (f : A → Reader B) (y : B × List Token) → follow o f ≡ Some y → ((a : A) (us : List Token) → o ≡ Some (a, us) → f a us ≡ Some y → P) → P
 follow_some None f y e k = absurd (none-some y e)
@@ -41,6 +41,23 @@ module _ {A : Type 0} (next : List Token → Option (List Token)) (item : Reader
           let l : length xs ≤ n = t.1 in
           subst (λ ys. AreRead ys ts rest × (length ys ≤ suc n)) s.0
           (subst (λ zs. AreRead (x ∷ xs) ts zs × (length (x ∷ xs) ≤ suc n)) s.1 ((us, vs, p, q, t.0), omega arith))))
+
+  -- behind them no other begins
+  pub many_ends : (n : ℕ) (ts : List Token) (bs : List A) (rest : List Token) → many_with next item n ts ≡ Some (bs, rest) → next rest ≡ None
+  unfolding many_with
+  many_ends zero ts bs rest e = go (next ts) refl e
+    where
+      go : (o : Option (List Token)) → next ts ≡ o → going_on (λ us. None) ts o ≡ Some (bs, rest) → next rest ≡ None
+      go None p h = let q = some_pair_parts [] bs ts rest h in ap next (sym q.1) ∙ p
+      go (Some us) p h = absurd (none-some (bs, rest) h)
+  many_ends (suc n) ts bs rest e = go (next ts) refl (λ us xs ws h. many_ends n us xs ws h) e
+    where
+      go : (o : Option (List Token)) → next ts ≡ o → ((us : List Token) (xs : List A) (ws : List Token) → many_with next item n us ≡ Some (xs, ws) → next ws ≡ None) → going_on (one_and item (many_with next item n)) ts o ≡ Some (bs, rest) → next rest ≡ None
+      go None p k h = let q = some_pair_parts [] bs ts rest h in ap next (sym q.1) ∙ p
+      go (Some us) p k h =
+          follow_some (item us) (λ x vs. follow (many_with next item n vs) (λ xs ws. Some (x ∷ xs, ws))) (bs, rest) h
+          (λ x vs q i. follow_some (many_with next item n vs) (λ xs ws. Some (x ∷ xs, ws)) (bs, rest) i
+          (λ xs ws r j. ap next (sym (some_pair_parts (x ∷ xs) bs ws rest j).1) ∙ k vs xs ws r))
 
   no_next : (n : ℕ) (ts : List Token) → next ts ≡ None → many_with next item n ts ≡ Some ([], ts)
   unfolding many_with
