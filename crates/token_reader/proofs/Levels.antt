@@ -9,7 +9,7 @@ use Rattle.elm_lexer.specs.Tokens.{Token}
 use Rattle.elm_tree.specs.Words.{Word, TextOf, Words, one}
 use Rattle.token_reader.specs.declared.error.ParseError.{ParseError}
 use Rattle.token_reader.specs.declared.error.ParseError.TheVariants.{NoMemory, NotAccepted}
-use Rattle.token_reader.specs.Reading.{Reader, Fails, follow, with_rest_of, same_kind, is_word, is_inside, take_at, take_words, between, begins_word, begins_kind}
+use Rattle.token_reader.specs.Reading.{Reader, Fails, follow, with_rest_of, same_kind, is_word, is_inside, take_at, take_words, or_else, behind_or, as_read, between, begins_word, begins_kind}
 use Rattle.token_reader.proofs.SameKind.{no}
 use Rattle.token_reader.proofs.Taken.{all_of, word_tells, one_taken, inside_tells}
 use Rattle.token_reader.proofs.Many.{follow_some}
@@ -37,6 +37,21 @@ in_between begin close inner ts us vs rest a p q r =
 pub closed : {A : Type 0} (e x : A) (o : Option (List Token)) (rest : List Token) → with_rest_of x o ≡ Some (e, rest) → (x ≡ e) × (o ≡ Some rest)
 closed e x None rest h = absurd (none-some (e, rest) h)
 closed e x (Some us) rest h = let p = some_pair_parts x e us rest h in (p.0, ap (λ vs. Some vs) p.1)
+
+-- what is read behind the words, or else
+pub behind_is : {A P : Type 0} (reader : Reader A) (other : Option (A × List Token)) (o : Option (List Token)) (y : A × List Token) → behind_or reader other o ≡ Some y → ((us : List Token) → o ≡ Some us → reader us ≡ Some y → P) → (o ≡ None → other ≡ Some y → P) → P
+behind_is reader other None y e h k = k refl e
+behind_is reader other (Some us) y e h k = h us refl e
+
+-- what is read, changed
+pub as_read_is : {A B P : Type 0} (f : A → B) (o : Option (A × List Token)) (b : B) (rest : List Token) → as_read f o ≡ Some (b, rest) → ((a : A) → o ≡ Some (a, rest) → f a ≡ b → P) → P
+as_read_is f None b rest h k = absurd (none-some (b, rest) h)
+as_read_is f (Some x) b rest h k = let p = some_pair_parts (f x.0) b x.1 rest h in k x.0 (ap (λ us. Some (x.0, us)) p.1) p.0
+
+-- one or the other
+pub or_else_is : {A P : Type 0} (o other : Option A) (y : A) → or_else o other ≡ Some y → (o ≡ Some y → P) → (o ≡ None → other ≡ Some y → P) → P
+or_else_is None other y e h k = k refl e
+or_else_is (Some x) other y e h k = h e
 
 -- what is read between two words is what inner reads between them
 pub between_is : {A P : Type 0} (begin close : Words) (inner : Reader A) (ts rest : List Token) (a : A) → between begin close inner ts ≡ Some (a, rest) → ((us vs : List Token) → take_words begin ts ≡ Some us → inner us ≡ Some (a, vs) → take_words close vs ≡ Some rest → P) → P

@@ -2,6 +2,7 @@
 use Rattle.std.proofs.Common.{◌≡◌, ℕ, ◌<◌, List, [], ◌∷◌, ◌++◌, length, Bool, true, false, cond, ◌&&◌, Option, Some, None, map, subst, refl, sym, ap, ◌∙◌, append_assoc, append-nil, codes, arith}
 use Rattle.std.proofs.lemmas.Option.{none-some, same_Some, some_pair_parts}
 use Rattle.std.proofs.lemmas.List.{length-map}
+use Rattle.elm_lexer.specs.declared.token.Kind.{Kind}
 use Rattle.elm_lexer.specs.declared.token.Kind.TheVariants as kind
 use Rattle.elm_lexer.specs.declared.token.Token as program
 use Rattle.elm_lexer.specs.Tokens.{Token}
@@ -9,12 +10,12 @@ use Rattle.elm_lexer.specs.View.{token_view}
 use Rattle.elm_tree.specs.Tree.{Pattern, NamePattern, Wildcard}
 use Rattle.elm_tree.specs.declared.tree.Pattern as tree
 use Rattle.elm_tree.specs.View.{pattern_view}
-use Rattle.elm_tree.specs.Words.{TextOf, pattern_words, patterns_words}
+use Rattle.elm_tree.specs.Words.{TextOf, one, pattern_words, patterns_words}
 use Rattle.elm_tree.specs.Spells.{IsWord}
 use Rattle.token_reader.specs.Reading.{same_kind, is_word, is_inside, with_rest, take_words, pattern_of, read_pattern, patterns_from, read_patterns}
 use Rattle.token_reader.proofs.SameKind.{same_kind-refl, same_kind_is}
 use Rattle.token_reader.proofs.Taken.{both, all_of, word_told, word_tells, inside_tells, joined, split, one_taken, one_begun}
-use Rattle.token_reader.proofs.Levels.{inside}
+use Rattle.token_reader.proofs.Levels.{inside, other_kind}
 
 -- ---- one parameter
 
@@ -63,6 +64,17 @@ pattern_read (NamePattern x) ts rest e =
 pattern_read Wildcard ts rest e =
     let b = one_taken (TextOf kind.Underscore (codes "_")) ts rest e in
     ap read_pattern b.first ∙ ap (with_rest rest) (wildcard_is b.token b.stands b.word)
+
+-- a token of another kind is no parameter
+pub no_pattern : (k : Kind) (text : List ℕ) (ts us : List Token) → same_kind k kind.LowerName ≡ false → same_kind k kind.Underscore ≡ false → take_words (one k text) ts ≡ Some us → read_pattern ts ≡ None
+no_pattern k text ts us d f e = go (read_pattern ts) refl
+  where
+    named : (w : Pattern) (vs : List Token) → take_words (pattern_words w) ts ≡ Some vs → ⊥
+    named (NamePattern x) vs h = none-some vs (sym (other_kind k kind.LowerName text x ts us d e) ∙ h)
+    named Wildcard vs h = none-some vs (sym (other_kind k kind.Underscore text (codes "_") ts us f e) ∙ h)
+    go : (o : Option (Pattern × List Token)) → read_pattern ts ≡ o → o ≡ None
+    go None h = refl
+    go (Some x) h = absurd (named x.0 x.1 (pattern_taken x.0 ts x.1 h))
 
 -- ---- parameters in a row
 

@@ -11,7 +11,7 @@ use Rattle.elm_tree.specs.Spells.{Begins}
 use Rattle.token_reader.specs.Reading.{same_kind, is_inside, is_outside, begins_kind, with_rest, number_of, take_at, take_words, read_number, read_at, read_text}
 use Rattle.token_reader.proofs.SameKind.{same_kind-refl, same_kind_is}
 use Rattle.token_reader.proofs.Taken.{both, all_of, inside_tells, outside_tells, one_taken, one_begun}
-use Rattle.token_reader.proofs.Levels.{inside}
+use Rattle.token_reader.proofs.Levels.{inside, other_begins}
 
 -- ---- texts
 
@@ -72,6 +72,10 @@ text_absent k (t ∷ ts) e = cond_none (is_inside t.start.column && same_kind t.
 -- a text takes one token
 pub text_shorter : (k : Kind) (x : List ℕ) (ts rest : List Token) → read_text k ts ≡ Some (x, rest) → length rest < length ts
 text_shorter k x ts rest e = let b = text_begun is_inside (λ c. 1 < c) inside_tells k x ts rest e in omega (arith, ap length b.first)
+
+-- a token of another kind is none of this kind
+pub other_text : (j k : Kind) (x : List ℕ) (ts us : List Token) → same_kind j k ≡ false → take_words (one j x) ts ≡ Some us → read_text k ts ≡ None
+other_text j k x ts us d e = no_text k ts (other_begins j k x ts us d e)
 
 -- ---- numbers
 

@@ -105,6 +105,11 @@ abbrev pub as_read : {A B : Type 0} → (A → B) → Option (A × List Token) �
 as_read f None = None
 as_read f (Some x) = Some (f x.0, x.1)
 
+-- what stands behind the words, if they were taken, and else something other
+abbrev pub behind_or : {A : Type 0} → Reader A → Option (A × List Token) → Option (List Token) → Option (A × List Token)
+behind_or reader other None = other
+behind_or reader other (Some ts) = reader ts
+
 -- what goes on reads; where nothing goes on, nothing
 abbrev pub going_on : {A : Type 0} → Reader (List A) → List Token → Option (List Token) → Option (List A × List Token)
 going_on goes_on ts None = Some ([], ts)
