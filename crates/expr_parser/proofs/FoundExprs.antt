@@ -2,15 +2,14 @@
 use Rattle.std.proofs.Common.{◌≡◌, ℕ, zero, suc, ◌+◌, ◌-◌, ◌<◌, ◌≤◌, List, [], ◌∷◌, ◌++◌, length, Bool, true, false, nat_le, Some, None, option_and_then, refl, sym, ap, ◌∙◌, append_assoc, codes, arith}
 use Rattle.std.proofs.lemmas.Bool.{leb-true}
 use Rattle.std.proofs.lemmas.Option.{same_Some, cond_some}
-use Rattle.elm_lexer.specs.declared.token.Kind.{Kind}
 use Rattle.elm_lexer.specs.declared.token.Kind.TheVariants as kind
 use Rattle.elm_lexer.specs.Tokens.{Token}
 use Rattle.elm_tree.specs.Tree.{Pattern, Expr, Int, Name, Qualified, UnitOf, Parens, Pair, Triple, Record, Apply, Chain, Lambda, Operands, NoOperand, MoreOperands, Exprs, NoExpr, MoreExprs, Fields, NoField, MoreFields}
 use Rattle.elm_tree.specs.View.{Behind, NamedValue, exprs_of, application_of, operands_of, chain_of, fields_of}
-use Rattle.elm_tree.specs.Words.{Words, one, lower, open_paren, close_paren, open_brace, close_brace, comma, equals, arrow, pattern_words, patterns_words, expr_words, exprs_words, operands_words, fields_words, more_fields_words}
+use Rattle.elm_tree.specs.Words.{one, lower, open_paren, close_paren, open_brace, close_brace, comma, equals, arrow, patterns_words, expr_words, exprs_words, operands_words, fields_words, more_fields_words}
 use Rattle.elm_tree.specs.Limits.{is_within, all_within, operands_within, fields_within, count_of}
 use Rattle.elm_tree.specs.Shape.{Argument, Operand, LastOperand, Whole, level_before, expr_shaped, exprs_shaped, operands_shaped, fields_shaped}
-use Rattle.token_reader.specs.Reading.{Reader, same_kind, begins_kind, follow, as_read, with_rest, take_words, number_of, read_number, read_text, read_name, read_patterns}
+use Rattle.token_reader.specs.Reading.{Reader, same_kind, begins_kind, follow, as_read, with_rest, take_words}
 use Rattle.token_reader.proofs.SameKind.{no}
 use Rattle.token_reader.proofs.Taken.{both, split}
 use Rattle.token_reader.proofs.Levels.{other_kind, taken_length}
@@ -18,7 +17,7 @@ use Rattle.token_reader.proofs.Many.{AreRead, many_complete, few_read}
 use Rattle.token_reader.proofs.Rows.{row_none, row_complete}
 use Rattle.token_reader.proofs.ReadTexts.{number_read, text_read, text_begins, no_number, other_text}
 use Rattle.token_reader.proofs.ReadPatterns.{no_pattern, patterns_complete}
-use Rattle.expr_parser.specs.Reading.{is_first, begins_argument, group_of, parts_with, closed_group, named, backslash, body_with, next_argument, arguments_with, next_operator, behind, behind_with, operands_with, read_expr, read_parts, read_field, read_fields, read_parens, read_record, read_lambda, read_argument, read_arguments, read_application, read_operand, read_operands}
+use Rattle.expr_parser.specs.Reading.{begins_argument, group_of, backslash, next_argument, next_operator, behind, behind_with, read_expr, read_parts, read_field, read_fields, read_argument, read_arguments, read_application, read_operand, read_operands}
 use Rattle.expr_parser.proofs.NextToken.{Stops, word_stops, kind_stops, next_is, next_none, operator_is, operator_none, argument_begins, operand_begins, argument_absent, expr_absent}
 use Rattle.expr_parser.proofs.ReadExprs.{argument_shrinks, expr_shrinks, field_shrinks}
 use Rattle.expr_parser.proofs.Steps.{int_is, name_is, qualified_is, in_parens, in_braces, lambda_is, no_lambda, application_read, expr_read, parens_read, record_read, body_is, field_read}
@@ -366,13 +365,12 @@ module _ (room : ℕ) (found : OperandFound room) where
       (λ vs j k. split (one kind.Operator op) (expr_words e) ts vs j
       (λ us l m.
       let t = text_read kind.Operator op ts us l in
-      let b = before_these os e vs rest k n.operator q.0 in
-      (
+      let b = before_these os e vs rest k n.operator q.0 in (
         ts,
         vs,
         operator_is ts (text_begins kind.Operator op ts us t),
         ap (λ o. follow o (λ x ws. as_read (behind x) (read_operand room ws))) t
-        ∙ ap (as_read (behind op)) (found e us vs b.0 r.0 m (operands_stop os vs rest k n.argument) b.1),
+            ∙ ap (as_read (behind op)) (found e us vs b.0 r.0 m (operands_stop os vs rest k n.argument) b.1),
         operands_found os vs rest q.1 r.1 k n,
       )))
 

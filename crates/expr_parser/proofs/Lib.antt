@@ -1,4 +1,6 @@
+mod Views
 pub mod NextToken
 pub mod ReadExprs
 mod Steps
 pub mod FoundExprs
+mod ExprSteps

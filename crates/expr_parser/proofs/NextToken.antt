@@ -1,13 +1,12 @@
 -- What stands first: where an argument or an expression begins, and where one ends.
-use Rattle.std.proofs.Common.{◌≡◌, ℕ, List, [], ◌∷◌, ◌++◌, Bool, true, false, cond, Option, Some, None, ◌⊎◌, inl, inr, refl, sym, ap, ◌∙◌, codes}
+use Rattle.std.proofs.Common.{◌≡◌, ℕ, List, ◌∷◌, ◌++◌, Bool, true, false, cond, Option, Some, None, ◌⊎◌, inl, inr, refl, sym, ap, ◌∙◌, codes}
 use Rattle.std.specs.Prelude.{◌&&◌, not}
-use Rattle.std.proofs.lemmas.Option.{cond_some}
 use Rattle.elm_lexer.specs.declared.token.Kind.{Kind}
 use Rattle.elm_lexer.specs.declared.token.Kind.TheVariants as kind
 use Rattle.elm_lexer.specs.Tokens.{Token}
 use Rattle.elm_tree.specs.Tree.{Expr, Int, Name, Qualified, UnitOf, Parens, Pair, Triple, Record, Apply, Chain, Lambda}
 use Rattle.elm_tree.specs.Words.{TextOf, NumberOf, Words, one, expr_words, exprs_words, operands_words}
-use Rattle.elm_tree.specs.Shape.{Argument, Operand, Whole, admits_application, expr_shaped, exprs_shaped}
+use Rattle.elm_tree.specs.Shape.{Argument, Operand, Whole, expr_shaped}
 use Rattle.token_reader.specs.Reading.{same_kind, begins_kind, take_words}
 use Rattle.token_reader.proofs.SameKind.{no}
 use Rattle.token_reader.proofs.Taken.{both, split, one_taken}

@@ -1,13 +1,12 @@
 -- An expression that is read is spelled by the tokens before the rest, stands where it may, and stays within the limits.
 use Rattle.std.proofs.Common.{◌≡◌, ℕ, zero, suc, ◌+◌, ◌<◌, ◌≤◌, List, [], ◌∷◌, ◌++◌, length, length-append, true, false, Option, Some, None, refl, sym, ap, subst, ◌∙◌, append_assoc, option_and_then, arith}
-use Rattle.std.specs.Prelude.{◌&&◌}
 use Rattle.std.proofs.lemmas.Bool.{le-leb}
 use Rattle.std.proofs.lemmas.Option.{none-some, cond_some, same_Some, option_and_then_some, some_pair_parts}
 use Rattle.elm_lexer.specs.declared.token.Kind.TheVariants as kind
 use Rattle.elm_lexer.specs.Tokens.{Token}
-use Rattle.elm_tree.specs.Tree.{Pattern, Expr, Int, Name, Qualified, UnitOf, Parens, Pair, Triple, Record, Apply, Chain, Lambda, Operands, NoOperand, MoreOperands, Exprs, Fields}
+use Rattle.elm_tree.specs.Tree.{Pattern, Expr, Int, Name, Qualified, UnitOf, Parens, Pair, Triple, Record, Apply, Chain, Lambda, Operands, Exprs, Fields}
 use Rattle.elm_tree.specs.View.{Behind, NamedValue, exprs_of, application_of, operands_of, chain_of, fields_of}
-use Rattle.elm_tree.specs.Words.{Words, one, lower, open_paren, close_paren, open_brace, close_brace, comma, equals, arrow, pattern_words, patterns_words, expr_words, exprs_words, operands_words, fields_words, more_fields_words}
+use Rattle.elm_tree.specs.Words.{Words, one, lower, open_paren, close_paren, open_brace, close_brace, comma, equals, arrow, patterns_words, expr_words, exprs_words, operands_words, fields_words, more_fields_words}
 use Rattle.elm_tree.specs.Limits.{is_within, all_within, operands_within, fields_within, count_of}
 use Rattle.elm_tree.specs.Shape.{Level, Argument, Operand, LastOperand, Whole, level_before, expr_shaped, exprs_shaped, operands_shaped, fields_shaped}
 use Rattle.token_reader.specs.Reading.{Reader, begins_kind, follow, or_else, behind_or, as_read, with_rest, with_rest_of, take_words, read_number, read_text, read_name, read_patterns}
@@ -18,7 +17,7 @@ use Rattle.token_reader.proofs.Many.{follow_some, AreRead, many_sound, many_ends
 use Rattle.token_reader.proofs.Rows.{AreInRow, row_sound}
 use Rattle.token_reader.proofs.ReadTexts.{number_taken, text_taken}
 use Rattle.token_reader.proofs.ReadPatterns.{patterns_taken}
-use Rattle.expr_parser.specs.Reading.{begins_argument, group_of, parts_with, closed_group, parens_with, named, field_with, fields_with, record_with, backslash, body_with, lambda_with, argument_with, next_argument, arguments_with, application_with, operand_with, next_operator, behind, behind_with, operands_with, chain_with, expr_with, nothing, read_expr, read_field, read_parens, read_record, read_lambda, read_argument, read_application, read_operand}
+use Rattle.expr_parser.specs.Reading.{begins_argument, group_of, parts_with, closed_group, parens_with, named, field_with, fields_with, record_with, backslash, body_with, lambda_with, argument_with, next_argument, arguments_with, application_with, operand_with, next_operator, behind, behind_with, operands_with, chain_with, expr_with, nothing, read_expr, read_field, read_parens, read_record, read_argument}
 use Rattle.expr_parser.proofs.NextToken.{none_operator}
 
 -- ---- where a part may stand

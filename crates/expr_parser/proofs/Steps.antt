@@ -2,13 +2,13 @@
 use Rattle.std.proofs.Common.{◌≡◌, ℕ, zero, suc, ◌-◌, List, Option, Some, None, option_and_then, refl, sym, ap, ◌∙◌, arith}
 use Rattle.elm_lexer.specs.declared.token.Kind.TheVariants as kind
 use Rattle.elm_lexer.specs.Tokens.{Token}
-use Rattle.elm_tree.specs.Tree.{Pattern, Expr, Int, Name, Qualified, Record, Lambda}
+use Rattle.elm_tree.specs.Tree.{Pattern, Expr, Int, Name, Qualified, Record}
 use Rattle.elm_tree.specs.View.{Behind, NamedValue, application_of, chain_of, fields_of}
-use Rattle.elm_tree.specs.Words.{open_paren, close_paren, open_brace, close_brace, equals, arrow}
+use Rattle.elm_tree.specs.Words.{open_paren, open_brace, close_brace, equals}
 use Rattle.token_reader.specs.declared.error.ParseError.{ParseError}
 use Rattle.token_reader.specs.declared.error.ParseError.TheVariants.{NoMemory, NotAccepted}
-use Rattle.token_reader.specs.Reading.{Fails, follow, or_else, behind_or, as_read, with_rest_of, take_words, read_number, read_text, read_name, read_patterns}
-use Rattle.expr_parser.specs.Reading.{closed_group, parens_with, named, record_with, backslash, body_with, lambda_with, argument_with, arguments_with, application_with, operand_with, operands_with, chain_with, read_expr, read_parts, read_field, read_fields, read_parens, read_record, read_lambda, read_argument, read_arguments, read_application, read_operand, read_operands}
+use Rattle.token_reader.specs.Reading.{Fails, follow, behind_or, as_read, with_rest_of, take_words, read_number, read_text, read_name, read_patterns}
+use Rattle.expr_parser.specs.Reading.{closed_group, parens_with, named, record_with, backslash, body_with, argument_with, arguments_with, operands_with, chain_with, read_expr, read_parts, read_field, read_fields, read_parens, read_record, read_lambda, read_argument, read_arguments, read_application, read_operand, read_operands}
 
 -- ---- arguments
 

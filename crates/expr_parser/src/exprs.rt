@@ -310,10 +310,6 @@ fn is_first(kind: Kind) -> bool
 {
     matches!(
         kind,
-        Kind::Int(_)
-            | Kind::LowerName
-            | Kind::QualifiedLower
-            | Kind::OpenParen
-            | Kind::OpenBrace
+        Kind::Int(_) | Kind::LowerName | Kind::QualifiedLower | Kind::OpenParen | Kind::OpenBrace
     )
 }

@@ -72,6 +72,7 @@ no_pattern k text ts us d f e = go (read_pattern ts) refl
     named : (w : Pattern) (vs : List Token) → take_words (pattern_words w) ts ≡ Some vs → ⊥
     named (NamePattern x) vs h = none-some vs (sym (other_kind k kind.LowerName text x ts us d e) ∙ h)
     named Wildcard vs h = none-some vs (sym (other_kind k kind.Underscore text (codes "_") ts us f e) ∙ h)
+
     go : (o : Option (Pattern × List Token)) → read_pattern ts ≡ o → o ≡ None
     go None h = refl
     go (Some x) h = absurd (named x.0 x.1 (pattern_taken x.0 ts x.1 h))
