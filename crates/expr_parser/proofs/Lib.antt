@@ -1,11 +1,6 @@
-pub mod SameKind
-pub mod Taken
-pub mod Levels
 mod Views
-mod Many
-pub mod ReadTypes
-mod TypeSteps
-pub mod ReadExprs
 pub mod NextToken
+pub mod ReadExprs
+mod Steps
 pub mod FoundExprs
 mod ExprSteps

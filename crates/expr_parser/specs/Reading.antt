@@ -1,200 +1,86 @@
--- Reading: what the parser reads, as a function on lists of tokens.
-use Rattle.std.specs.Prelude.{◌≡◌, ℕ, zero, suc, List, [], ◌∷◌, Bool, true, false, not, ◌&&◌, if◌then◌else◌, ◌==◌, nat_lt, Option, Some, None, option_and_then, Result, Ok, Err, length, codes}
-use Rattle.std.specs.Borrow.{Bor}
-use Rattle.std.specs.Str.{bytes_eq}
+-- Reading: what the parser reads of an expression, as a function on lists of tokens. (Elm syntax reference.)
+use Rattle.std.specs.Prelude.{ℕ, zero, suc, List, [], ◌∷◌, Bool, true, false, not, ◌&&◌, if◌then◌else◌, Option, Some, None, option_and_then, length, codes}
 use Rattle.elm_lexer.specs.declared.token.Kind.{Kind}
 use Rattle.elm_lexer.specs.declared.token.Kind.TheVariants as kind
-use Rattle.elm_lexer.specs.contracts.token.KindPartialEq.TheImpl.{ghosts}
 use Rattle.elm_lexer.specs.Tokens.{Token}
-use Rattle.elm_tree.specs.Tree.{Expr, Int, Name, Parens, TypeTree, TypeName, TypeParens, NoType}
-use Rattle.elm_tree.specs.View.{Behind, application_of, chain_of, function_of}
-use Rattle.elm_tree.specs.Words.{Word, TextOf, NumberOf, Words, one, open_paren, close_paren, arrow}
-use Rattle.expr_parser.specs.declared.error.ParseError.{ParseError}
-use Rattle.expr_parser.specs.declared.error.ParseError.TheVariants.{NoMemory, NotAccepted}
+use Rattle.elm_tree.specs.Tree.{Pattern, Expr, Int, Name, Qualified, UnitOf, Parens, Pair, Triple, Record, Lambda}
+use Rattle.elm_tree.specs.View.{Behind, NamedValue, application_of, chain_of, fields_of}
+use Rattle.elm_tree.specs.Words.{Words, one, open_paren, close_paren, open_brace, close_brace, equals, arrow}
+use Rattle.token_reader.specs.Reading.{Reader, is_inside, begins_kind, take_words, follow, or_else, behind_or, with_rest, with_rest_of, as_read, many_with, row_with, read_number, read_text, read_name, read_patterns}
 
--- ---- what a function returned, seen by view, is what reading gives; want of memory says nothing
-
-abbrev pub Sees : {X Y : Type 0} → (X → Y) → Option X → Option Y → Type 0
-Sees view None read = read ≡ None
-Sees view (Some x) read = read ≡ Some (view x)
-
-abbrev pub Fails : {Y : Type 0} → ParseError → Option Y → Type 0
-Fails NoMemory read = Unit {0}
-Fails NotAccepted read = read ≡ None
-
-abbrev pub Gives : {X Y : Type 0} → (X → Y) → Result X ParseError → Option Y → Type 0
-Gives view (Ok x) read = read ≡ Some (view x)
-Gives view (Err e) read = Fails e read
-
--- ---- words
-
--- the two kinds are one
-unfoldable pub same_kind : Kind → Kind → Bool
-same_kind a b = ghosts.eq a b
-
--- the token is the word
-abbrev pub is_word : Word → Token → Bool
-is_word (TextOf k text) t = same_kind t.kind k && bytes_eq t.text text
-is_word (NumberOf n) t = same_kind t.kind (kind.Int n)
-
--- the others, if the first token is the word and stands where the test says
-abbrev pub take_at : (ℕ → Bool) → Word → List Token → Option (List Token)
-take_at place w [] = None
-take_at place w (t ∷ ts) = if place t.start.column && is_word w t then Some ts else None
-
--- right of column 1
-abbrev pub is_inside : ℕ → Bool
-is_inside column = nat_lt 1 column
-
--- in column 1
-abbrev pub is_outside : ℕ → Bool
-is_outside column = column == 1
-
--- the tokens behind the words
-unfoldable pub take_words : Words → List Token → Option (List Token)
-take_words [] ts = Some ts
-take_words (w ∷ ws) ts = option_and_then (take_words ws) (take_at is_inside w ts)
-
--- the first word stands in column 1
-unfoldable pub take_line : Words → List Token → Option (List Token)
-take_line [] ts = None
-take_line (w ∷ ws) ts = option_and_then (take_words ws) (take_at is_outside w ts)
-
--- a row of a table as a word
-abbrev pub row_word : Kind × record { now : List ℕ } → Word
-row_word row = TextOf row.0 row.1.now
-
--- a row of the program's tables as a word
-abbrev pub word_of : Kind × Bor (List ℕ) → Word
-word_of row = TextOf row.0 row.1.now
-
-abbrev pub plus : Words
-plus = one kind.Operator (codes "+")
-
-abbrev pub int_name : Words
-int_name = one kind.UpperName (codes "Int")
-
--- ---- where an expression or a type ends
+-- ---- where an expression ends
 
 -- a token of this kind begins an argument
-abbrev pub begins_kind : Kind → Bool
-begins_kind (kind.Int n) = true
-begins_kind kind.LowerName = true
-begins_kind kind.OpenParen = true
-begins_kind _ = false
+abbrev pub is_first : Kind → Bool
+is_first (kind.Int n) = true
+is_first kind.LowerName = true
+is_first kind.QualifiedLower = true
+is_first kind.OpenParen = true
+is_first kind.OpenBrace = true
+is_first _ = false
 
 -- an argument begins, right of column 1
 abbrev pub begins_argument : List Token → Bool
 begins_argument [] = false
-begins_argument (t ∷ ts) = is_inside t.start.column && begins_kind t.kind
+begins_argument (t ∷ ts) = is_inside t.start.column && is_first t.kind
 
--- the word stands first, right of column 1
-abbrev pub begins_word : Word → List Token → Bool
-begins_word w [] = false
-begins_word w (t ∷ ts) = is_inside t.start.column && is_word w t
-
--- nothing goes on with an expression: no Int, no name, no parenthesis, and no +
+-- nothing goes on with an expression: no token that begins an argument, and no operator
 abbrev pub stops_expr : List Token → Bool
-stops_expr ts = not (begins_argument ts) && not (begins_word (TextOf kind.Operator (codes "+")) ts)
+stops_expr ts = not (begins_argument ts) && not (begins_kind kind.Operator ts)
 
--- nothing goes on with a type: no arrow
-abbrev pub stops_type : List Token → Bool
-stops_type ts = not (begins_word (TextOf kind.Arrow (codes "->")) ts)
+-- ---- parentheses, records and lambdas, each behind its first token
 
--- ---- readers
+-- what stands in parentheses: at most three parts
+abbrev pub group_of : List Expr → Option Expr
+group_of [] = Some UnitOf
+group_of (a ∷ []) = Some (Parens a)
+group_of (a ∷ b ∷ []) = Some (Pair a b)
+group_of (a ∷ b ∷ c ∷ []) = Some (Triple a b c)
+group_of (a ∷ b ∷ c ∷ d ∷ es) = None
 
--- what is read first, and the tokens after it
-abbrev pub Reader : Type 0 → Type 0
-Reader A = List Token → Option (A × List Token)
+abbrev pub parts_with : Reader Expr → Reader (List Expr)
+parts_with expr ts = row_with close_paren expr (length ts) ts
 
-abbrev pub follow : {A B : Type 0} → Option (A × List Token) → (A → Reader B) → Option (B × List Token)
-follow None f = None
-follow (Some x) f = f x.0 x.1
+-- the closing parenthesis, behind these parts
+abbrev pub closed_group : List Expr → Reader Expr
+closed_group es ts = option_and_then (λ us. with_rest us (group_of es)) (take_words close_paren ts)
 
-abbrev pub or_else : {A : Type 0} → Option A → Option A → Option A
-or_else None other = other
-or_else (Some a) other = Some a
+abbrev pub parens_with : Reader Expr → Reader Expr
+parens_with expr ts = follow (parts_with expr ts) closed_group
 
--- what was read, if the rest could be taken
-abbrev pub with_rest_of : {A : Type 0} → A → Option (List Token) → Option (A × List Token)
-with_rest_of a None = None
-with_rest_of a (Some ts) = Some (a, ts)
+-- a name, and the expression behind `=`
+abbrev pub named : List ℕ → Expr → NamedValue
+named x e = (x, e)
 
-abbrev pub with_rest : {A : Type 0} → List Token → Option A → Option (A × List Token)
-with_rest ts None = None
-with_rest ts (Some a) = Some (a, ts)
+abbrev pub field_with : Reader Expr → Reader NamedValue
+field_with expr ts = follow (read_name ts) (λ x us. option_and_then (λ vs. as_read (named x) (expr vs)) (take_words equals us))
 
--- what was read, changed
-abbrev pub as_read : {A B : Type 0} → (A → B) → Option (A × List Token) → Option (B × List Token)
-as_read f None = None
-as_read f (Some x) = Some (f x.0, x.1)
+abbrev pub fields_with : Reader NamedValue → Reader (List NamedValue)
+fields_with field ts = row_with close_brace field (length ts) ts
 
--- what goes on reads; where nothing goes on, nothing
-abbrev pub going_on : {A : Type 0} → Reader (List A) → List Token → Option (List Token) → Option (List A × List Token)
-going_on goes_on ts None = Some ([], ts)
-going_on goes_on ts (Some us) = goes_on us
+abbrev pub record_with : Reader Expr → Reader Expr
+record_with expr ts = follow (fields_with (field_with expr) ts) (λ fs us. with_rest_of (Record (fields_of fs)) (take_words close_brace us))
 
--- one, and then others
-abbrev pub one_and : {A : Type 0} → Reader A → Reader (List A) → Reader (List A)
-one_and item others us = follow (item us) (λ a vs. follow (others vs) (λ bs rest. Some (a ∷ bs, rest)))
+abbrev pub backslash : Words
+backslash = one kind.Backslash (codes "\\")
 
--- at most so many, as long as next says where another one begins
-unfoldable pub many_with : {A : Type 0} → (List Token → Option (List Token)) → Reader A → ℕ → Reader (List A)
-many_with next item zero ts = going_on (λ us. None) ts (next ts)
-many_with next item (suc n) ts = going_on (one_and item (many_with next item n)) ts (next ts)
+-- the body, behind parameters, one or more
+abbrev pub body_with : Reader Expr → List Pattern → Reader Expr
+body_with expr [] ts = None
+body_with expr (p ∷ ps) ts = option_and_then (λ us. as_read (Lambda p ps) (expr us)) (take_words arrow ts)
 
--- what inner reads, in parentheses
-abbrev pub parens_with : {A : Type 0} → (A → A) → Reader A → Reader A
-parens_with wrap inner ts = option_and_then (λ us. follow (inner us) (λ e vs. with_rest_of (wrap e) (take_words close_paren vs))) (take_words open_paren ts)
+abbrev pub lambda_with : Reader Expr → Reader Expr
+lambda_with expr ts = body_with expr (read_patterns ts).0 (read_patterns ts).1
 
--- ---- names and numbers
+-- ---- arguments, applications and chains
 
-abbrev pub number_of : Kind → Option ℕ
-number_of (kind.Int n) = Some n
-number_of _ = None
-
-unfoldable pub read_number : Reader ℕ
-read_number [] = None
-read_number (t ∷ ts) = if is_inside t.start.column then with_rest ts (number_of t.kind) else None
-
--- a name without a module
-unfoldable pub read_name : Reader (List ℕ)
-read_name [] = None
-read_name (t ∷ ts) = if is_inside t.start.column && same_kind t.kind kind.LowerName then Some (t.text, ts) else None
-
--- ---- types
-
--- Int, or what parens reads
-abbrev pub type_atom_with : Reader TypeTree → Reader TypeTree
-type_atom_with parens ts = or_else (with_rest_of (TypeName (codes "Int") NoType) (take_words int_name ts)) (parens ts)
-
--- those behind arrows
-abbrev pub arrows_with : Reader TypeTree → Reader (List TypeTree)
-arrows_with atom ts = many_with (take_words arrow) atom (length ts) ts
-
-abbrev pub type_with : Reader TypeTree → Reader TypeTree
-type_with atom ts = follow (atom ts) (λ a us. follow (arrows_with atom us) (λ bs rest. Some (function_of a bs, rest)))
-
--- room: how many constructs may still be opened
-unfoldable pub read_type_atom : ℕ → Reader TypeTree
-read_type_atom zero ts = type_atom_with (λ us. None) ts
-read_type_atom (suc room) ts = type_atom_with (parens_with TypeParens (type_with (read_type_atom room))) ts
-
-unfoldable pub read_arrows : ℕ → Reader (List TypeTree)
-read_arrows room ts = arrows_with (read_type_atom room) ts
-
-unfoldable pub read_type : ℕ → Reader TypeTree
-read_type room ts = type_with (read_type_atom room) ts
-
-unfoldable pub read_type_parens : ℕ → Reader TypeTree
-read_type_parens zero ts = None
-read_type_parens (suc room) ts = parens_with TypeParens (read_type room) ts
-
--- ---- expressions
-
--- a literal, a name, or what parens reads
-abbrev pub argument_with : Reader Expr → Reader Expr
-argument_with parens ts = or_else (as_read Int (read_number ts)) (or_else (as_read Name (read_name ts)) (parens ts))
+-- a literal, a name, or what parens or record reads behind its first token
+abbrev pub argument_with : Reader Expr → Reader Expr → Reader Expr
+argument_with parens rec ts =
+    or_else (as_read Int (read_number ts))
+    (or_else (as_read Name (read_name ts))
+    (or_else (as_read Qualified (read_text kind.QualifiedLower ts))
+    (behind_or parens (behind_or rec None (take_words open_brace ts)) (take_words open_paren ts))))
 
 -- where another argument begins
 abbrev pub next_argument : List Token → Option (List Token)
@@ -207,24 +93,68 @@ arguments_with argument ts = many_with next_argument argument (length ts) ts
 abbrev pub application_with : Reader Expr → Reader Expr
 application_with argument ts = follow (argument ts) (λ f us. follow (arguments_with argument us) (λ es rest. Some (application_of f es, rest)))
 
--- an operand behind a +
-abbrev pub behind_plus : Expr → Behind
-behind_plus e = (codes "+", e)
+-- a lambda, or a function with its arguments
+abbrev pub operand_with : Reader Expr → Reader Expr → Reader Expr
+operand_with lambda application ts = behind_or lambda (application ts) (take_words backslash ts)
 
-abbrev pub operand_with : Reader Expr → Reader Behind
-operand_with application ts = as_read behind_plus (application ts)
+-- where another operator stands
+abbrev pub next_operator : List Token → Option (List Token)
+next_operator ts = if begins_kind kind.Operator ts then Some ts else None
+
+abbrev pub behind : List ℕ → Expr → Behind
+behind op e = (op, e)
+
+-- an operator, and the operand behind it
+abbrev pub behind_with : Reader Expr → Reader Behind
+behind_with operand ts = follow (read_text kind.Operator ts) (λ op us. as_read (behind op) (operand us))
 
 -- at most 1024 operators, each with the operand behind it
 abbrev pub operands_with : Reader Expr → Reader (List Behind)
-operands_with application ts = many_with (take_words plus) (operand_with application) 1024 ts
+operands_with operand ts = many_with next_operator (behind_with operand) 1024 ts
 
 abbrev pub chain_with : Reader Expr → Reader Expr
-chain_with application ts = follow (application ts) (λ a us. follow (operands_with application us) (λ os rest. Some (chain_of a os, rest)))
+chain_with operand ts = follow (operand ts) (λ a us. follow (operands_with operand us) (λ os rest. Some (chain_of a os, rest)))
 
--- room: how many constructs may still be opened
+-- ---- room: how many constructs may still be opened
+
+-- an expression, of the readers of parentheses, records and lambdas
+abbrev pub expr_with : Reader Expr → Reader Expr → Reader Expr → Reader Expr
+expr_with parens rec lambda = chain_with (operand_with lambda (application_with (argument_with parens rec)))
+
+abbrev pub nothing : Reader Expr
+nothing ts = None
+
+-- a whole expression
+unfoldable pub read_expr : ℕ → Reader Expr
+read_expr zero ts = expr_with nothing nothing nothing ts
+read_expr (suc room) ts = expr_with (parens_with (read_expr room)) (record_with (read_expr room)) (lambda_with (read_expr room)) ts
+
+unfoldable pub read_parts : ℕ → Reader (List Expr)
+read_parts room ts = parts_with (read_expr room) ts
+
+unfoldable pub read_field : ℕ → Reader NamedValue
+read_field room ts = field_with (read_expr room) ts
+
+unfoldable pub read_fields : ℕ → Reader (List NamedValue)
+read_fields room ts = fields_with (read_field room) ts
+
+-- behind the opening parenthesis
+unfoldable pub read_parens : ℕ → Reader Expr
+read_parens zero ts = None
+read_parens (suc room) ts = parens_with (read_expr room) ts
+
+-- behind the opening brace
+unfoldable pub read_record : ℕ → Reader Expr
+read_record zero ts = None
+read_record (suc room) ts = record_with (read_expr room) ts
+
+-- behind the backslash
+unfoldable pub read_lambda : ℕ → Reader Expr
+read_lambda zero ts = None
+read_lambda (suc room) ts = lambda_with (read_expr room) ts
+
 unfoldable pub read_argument : ℕ → Reader Expr
-read_argument zero ts = argument_with (λ us. None) ts
-read_argument (suc room) ts = argument_with (parens_with Parens (chain_with (application_with (read_argument room)))) ts
+read_argument room ts = argument_with (read_parens room) (read_record room) ts
 
 unfoldable pub read_arguments : ℕ → Reader (List Expr)
 read_arguments room ts = arguments_with (read_argument room) ts
@@ -232,13 +162,8 @@ read_arguments room ts = arguments_with (read_argument room) ts
 unfoldable pub read_application : ℕ → Reader Expr
 read_application room ts = application_with (read_argument room) ts
 
+unfoldable pub read_operand : ℕ → Reader Expr
+read_operand room ts = operand_with (read_lambda room) (read_application room) ts
+
 unfoldable pub read_operands : ℕ → Reader (List Behind)
-read_operands room ts = operands_with (application_with (read_argument room)) ts
-
--- a whole expression
-unfoldable pub read_expr : ℕ → Reader Expr
-read_expr room ts = chain_with (application_with (read_argument room)) ts
-
-unfoldable pub read_parens : ℕ → Reader Expr
-read_parens zero ts = None
-read_parens (suc room) ts = parens_with Parens (read_expr room) ts
+read_operands room ts = operands_with (read_operand room) ts

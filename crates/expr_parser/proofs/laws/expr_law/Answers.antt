@@ -1,12 +1,12 @@
 use Rattle.elm_tree.specs.Words.{expr_words}
-use Rattle.expr_parser.proofs.Taken.{fits_of, words_of_fits}
+use Rattle.token_reader.proofs.Taken.{fits_of, words_of_fits}
+use Rattle.expr_parser.proofs.NextToken.{stops_of}
 use Rattle.expr_parser.proofs.ReadExprs.{expr_sound}
-use Rattle.expr_parser.proofs.NextToken.{stops_argument, stops_plus}
 use Rattle.expr_parser.proofs.FoundExprs.{expr_found}
 use Rattle.expr_parser.proofs.laws.expr_law.Goals as goal
 
 pub returns-clause-sound : goal.returns-clause-sound
-returns-clause-sound c = λ room ts e rest h. let r = expr_sound room ts e rest h in (fits_of (expr_words e) ts rest r.taken, r.simple, r.shaped, r.within)
+returns-clause-sound c = λ room ts e rest h. let r = (expr_sound room ts e rest h).read in (fits_of (expr_words e) ts rest r.taken, r.shaped, r.within)
 
 pub returns-clause-complete : goal.returns-clause-complete
-returns-clause-complete c = λ room ts e rest i s w f n. expr_found room e ts rest i s w (words_of_fits (expr_words e) ts rest f) (stops_argument rest n) (stops_plus rest n)
+returns-clause-complete c = λ room ts e rest s w f n. expr_found room e ts rest s w (words_of_fits (expr_words e) ts rest f) (stops_of rest n)
