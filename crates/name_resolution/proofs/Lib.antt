@@ -1,6 +1,8 @@
-pub mod Read
 pub mod OneMeaning
 pub mod Among
-pub mod Growing
-pub mod Whole
+pub mod Changes
 pub mod Folds
+pub mod Growing
+pub mod Distinct
+pub mod Read
+pub mod Whole

@@ -1,15 +1,10 @@
-//! A definition, and `main`, mean one thing at most.
-ghost use Rattle.std.specs.Prelude.{◌≡◌, ℕ, List};
+//! A definition means one thing at most.
+ghost use Rattle.std.specs.Prelude.{◌≡◌, List};
 ghost use Rattle.elm_canon.specs.Tree as canon;
-ghost use Rattle.elm_tree.specs.Tree.{Expr, Declaration};
-ghost use Rattle.name_resolution.specs.Meaning.{DefinitionMeans, MainMeans};
+ghost use Rattle.elm_tree.specs.Tree.{Pattern, Expr, Declaration};
+ghost use Rattle.name_resolution.specs.Meaning.{DefinitionMeans};
 
 /// A definition means at most one canonical tree.
 pub fn definition_law()
-    ensures { (ds : List Declaration) (ps : List (List ℕ)) (e : Expr) (c d : canon.Expr) → DefinitionMeans ds ps e c → DefinitionMeans ds ps e d → c ≡ d }
-{}
-
-/// `main` means at most one canonical tree.
-pub fn main_law()
-    ensures { (ds : List Declaration) (port : List ℕ) (sent : Expr) (c d : canon.Expr) → MainMeans ds port sent c → MainMeans ds port sent d → c ≡ d }
+    ensures { (ds : List Declaration) (ps : List Pattern) (e : Expr) (c d : canon.Expr) → DefinitionMeans ds ps e c → DefinitionMeans ds ps e d → c ≡ d }
 {}

@@ -3,9 +3,10 @@
 
 mod build;
 pub mod laws;
+mod locals;
 pub mod names;
 pub mod resolve;
-mod worker;
+mod sets;
 
-pub use names::{Names, Place, declared, is_main};
-pub use resolve::{definition, main};
+pub use names::{Names, declared};
+pub use resolve::definition;

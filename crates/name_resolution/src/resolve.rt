@@ -1,172 +1,168 @@
 //! What definitions mean among the names of their module.
-ghost use Rattle.std.specs.Prelude.{◌≡◌, ◌++◌, ◌∷◌, [], ℕ, List, None, IfOk, IfSome, map, option_map};
+ghost use Rattle.std.specs.Prelude.{◌≡◌, List, [], Some, None, IfOk, IfSome, OnOk, map, option_map, if◌then◌else◌};
+ghost use Rattle.std.specs.List.{fold};
 ghost use Rattle.elm_canon.specs.Tree as canon;
 ghost use Rattle.elm_canon.specs.View as canon_view;
 ghost use Rattle.elm_tree.specs.Tree as plain;
-ghost use Rattle.elm_tree.specs.View.{expr_view, names_view};
+ghost use Rattle.elm_tree.specs.View.{pattern_view, expr_view, operand_view, field_view};
 ghost use Rattle.elm_tree.specs.Utf16.{units_of};
-ghost use Rattle.name_resolution.specs.Meaning.{function_of, DefinitionMeans, MainMeans};
-ghost use Rattle.name_resolution.specs.Knows.{Knows};
-ghost use Rattle.name_resolution.specs.Reading.{meaning_in, found, AreLocals, main_in, is_port, with_last, called, call_of, added, joined};
+ghost use Rattle.elm_tree.specs.Resolve as resolve;
+ghost use Rattle.name_resolution.specs.Meaning.{DefinitionMeans};
+ghost use Rattle.name_resolution.specs.Knows.{Knows, declares};
+ghost use Rattle.name_resolution.specs.Knows as knows;
+ghost use Rattle.name_resolution.specs.Reading.{meaning_in, function_in, found, record_of, argument_step, operand_step, field_step};
 
-use crate::build::{add, ascii, lambda, top};
-use crate::names::{Names, Place, is_main};
-use crate::worker::worker;
+use crate::build::{
+    called, functions, joined, pair, record, top, triple, value, with_field, with_last,
+};
+use crate::locals::{enter, leave};
+use crate::names::Names;
+use crate::sets::has;
 use elm_base::units::Units;
-use elm_canon::tree::{Expr, Pattern, Ref};
+use elm_canon::tree::{Expr, Field, Ref};
 use elm_tree::tree;
+use elm_tree::tree::Pattern;
 use elm_tree::utf16::units;
 use std::alloc::{AllocError, Global};
 use std::collections::BTreeSet;
 
-/// What a definition with these parameters means. None: it means nothing, or it is not over Int.
+/// What a definition with these parameters means. None: it means nothing.
 pub fn definition(
     alloc: Global,
     names: &Names,
-    parameters: &[&[u8]],
+    parameters: &[Pattern],
     body: &tree::Expr,
 ) -> Result<Option<Expr>, AllocError>
-    ensures some { (ds : List plain.Declaration) → Knows names.now ds → IfOk result (λ r. IfSome r (λ c. DefinitionMeans ds (names_view parameters.now) (expr_view body.now) (canon_view.expr_view c))) }
-    ensures none { (ds : List plain.Declaration) → Knows names.now ds → IfOk result (λ r. r ≡ None → (c : canon.Expr) → DefinitionMeans ds (names_view parameters.now) (expr_view body.now) c → ⊥) }
+    ensures some { (ds : List plain.Declaration) → Knows names.now ds → IfOk result (λ r. IfSome r (λ c. DefinitionMeans ds (map pattern_view parameters.now) (expr_view body.now) (canon_view.expr_view c))) }
+    ensures none { (ds : List plain.Declaration) → Knows names.now ds → IfOk result (λ r. r ≡ None → (c : canon.Expr) → DefinitionMeans ds (map pattern_view parameters.now) (expr_view body.now) c → ⊥) }
 {
-    let Some(locals) = locals_of(alloc, names, parameters)? else {
-        return Ok(None);
-    };
-    match meaning(alloc, names, &locals, body)? {
-        None => Ok(None),
-        Some(body) => Ok(Some(function(alloc, parameters, body)?)),
-    }
-}
-
-/// What `main` means, a worker that sends the number `sent` on the port as it starts. None: it means nothing, or the
-/// number is not over Int.
-pub fn main(
-    alloc: Global,
-    names: &Names,
-    port: &[u8],
-    sent: &tree::Expr,
-) -> Result<Option<Expr>, AllocError>
-    ensures some { (ds : List plain.Declaration) → Knows names.now ds → IfOk result (λ r. IfSome r (λ c. MainMeans ds port.now (expr_view sent.now) (canon_view.expr_view c))) }
-    ensures none { (ds : List plain.Declaration) → Knows names.now ds → IfOk result (λ r. r ≡ None → (c : canon.Expr) → MainMeans ds port.now (expr_view sent.now) c → ⊥) }
-{
-    worker_of(alloc, names, port, sent)
-}
-
-/// What `main` means, as it is computed.
-fn worker_of(
-    alloc: Global,
-    names: &Names,
-    port: &[u8],
-    sent: &tree::Expr,
-) -> Result<Option<Expr>, AllocError>
-    ensures { IfOk result (λ r. option_map canon_view.expr_view r ≡ main_in names.now (units_of port.now) (expr_view sent.now)) }
-{
-    let port = units(alloc, port)?;
-    if !is_port(names.place(&port)) || names.place(&ascii(alloc, "m")?).is_some() {
-        return Ok(None);
-    }
-    match alone(alloc, names, sent)? {
-        None => Ok(None),
-        Some(sent) => Ok(Some(worker(alloc, port, sent)?)),
-    }
-}
-
-/// The place is that of a port.
-fn is_port(place: Option<Place>) -> bool
-    ensures { result ≡ is_port place }
-{
-    match place {
-        Some(Place::Port) => true,
-        Some(Place::Value | Place::Main) | None => false,
-    }
-}
-
-/// What an expression means without local names.
-fn alone(alloc: Global, names: &Names, e: &tree::Expr) -> Result<Option<Expr>, AllocError>
-    ensures { IfOk result (λ r. option_map canon_view.expr_view r ≡ meaning_in (found names.now []) (expr_view e.now)) }
-{
-    let locals = BTreeSet::new(alloc);
-    meaning(alloc, names, &locals, e)
-}
-
-/// The set of the parameters, if each is new.
-fn locals_of(
-    alloc: Global,
-    names: &Names,
-    parameters: &[&[u8]],
-) -> Result<Option<BTreeSet<Units>>, AllocError>
-    ensures { (ds : List plain.Declaration) → Knows names.now ds → IfOk result (AreLocals ds (map units_of (names_view parameters.now))) }
-{
-    let mut locals = Some(BTreeSet::new(alloc));
-    for parameter in parameters {
-        locals = with_local(alloc, names, locals, parameter)?;
-    }
-    Ok(locals)
-}
-
-/// The set with one name more, if it is new.
-fn with_local(
-    alloc: Global,
-    names: &Names,
-    locals: Option<BTreeSet<Units>>,
-    name: &[u8],
-) -> Result<Option<BTreeSet<Units>>, AllocError>
-    ensures { (ds : List plain.Declaration) → Knows names.now ds → (xs : List (List ℕ)) → AreLocals ds xs locals → IfOk result (AreLocals ds (xs ++ units_of name.now ∷ [])) }
-{
-    let name = units(alloc, name)?;
-    let Some(mut locals) = locals else {
-        return Ok(None);
-    };
-    if names.place(&name).is_some() || locals.contains(&name) {
-        return Ok(None);
-    }
-    locals.insert(name)?;
-    Ok(Some(locals))
-}
-
-/// A function of one parameter after the other.
-fn function(alloc: Global, parameters: &[&[u8]], body: Expr) -> Result<Expr, AllocError>
-    ensures { IfOk result (λ e. canon_view.expr_view e ≡ function_of (map units_of (names_view parameters.now)) (canon_view.expr_view body)) }
-{
-    let mut function = body;
-    for i in (0..parameters.len()).rev() {
-        let parameter = units(alloc, parameters[i])?;
-        function = lambda(alloc, Pattern::Named(parameter), function)?;
-    }
-    Ok(function)
+    let mut locals = BTreeSet::new(alloc);
+    function(alloc, names, &mut locals, parameters, body)
 }
 
 /// What an expression means. Parentheses leave nothing, and sums are grouped from the left.
+#[cycle(meaning)]
 fn meaning(
     alloc: Global,
     names: &Names,
-    locals: &BTreeSet<Units>,
+    locals: &mut BTreeSet<Units>,
     e: &tree::Expr,
 ) -> Result<Option<Expr>, AllocError>
-    ensures { IfOk result (λ r. option_map canon_view.expr_view r ≡ meaning_in (found names.now locals.now.keys) (expr_view e.now)) }
+    ensures is { IfOk result (λ r. option_map canon_view.expr_view r ≡ meaning_in (declares names.now) (expr_view e.now) (knows.has locals.old)) }
+    ensures locals { OnOk result (knows.has locals.new ≡ knows.has locals.old) }
 {
     match e {
         tree::Expr::Int(value) => Ok(Some(Expr::Int(*value))),
         tree::Expr::Name(name) => variable(alloc, names, locals, name),
+        tree::Expr::Qualified(name) => core_value(alloc, name),
+        tree::Expr::Unit => Ok(Some(Expr::Unit)),
         tree::Expr::Parens(inner) => meaning(alloc, names, locals, inner),
-        tree::Expr::Apply(function, arguments) => {
-            let mut meanings = Some(Vec::new(alloc));
-            for argument in arguments {
-                let argument = meaning(alloc, names, locals, argument)?;
-                meanings = with_last(meanings, argument)?;
+        tree::Expr::Pair(first, second) => {
+            let first = meaning(alloc, names, locals, first)?;
+            let second = meaning(alloc, names, locals, second)?;
+            pair(alloc, first, second)
+        }
+        tree::Expr::Triple(first, second, third) => {
+            let first = meaning(alloc, names, locals, first)?;
+            let second = meaning(alloc, names, locals, second)?;
+            let third = meaning(alloc, names, locals, third)?;
+            triple(alloc, first, second, third)
+        }
+        tree::Expr::Record(fields) => {
+            if !are_distinct(alloc, fields)? {
+                return Ok(None);
             }
+            Ok(record(meanings_of_fields(alloc, names, locals, fields)?))
+        }
+        tree::Expr::Apply(function, arguments) => {
             let function = meaning(alloc, names, locals, function)?;
-            called(alloc, function, meanings)
+            let arguments = meanings(alloc, names, locals, arguments)?;
+            called(alloc, function, arguments)
         }
         tree::Expr::Chain(first, others) => {
-            let mut sum = meaning(alloc, names, locals, first)?;
-            for other in others {
-                let operand = meaning(alloc, names, locals, &other.operand)?;
-                sum = joined(alloc, other.operator, sum, operand)?;
-            }
-            Ok(sum)
+            let first = meaning(alloc, names, locals, first)?;
+            sum(alloc, names, locals, first, others)
         }
+        tree::Expr::Lambda(parameters, body) => function(alloc, names, locals, parameters, body),
     }
+}
+
+/// What arguments mean.
+#[cycle(meaning)]
+fn meanings(
+    alloc: Global,
+    names: &Names,
+    locals: &mut BTreeSet<Units>,
+    arguments: &[tree::Expr],
+) -> Result<Option<Vec<Expr>>, AllocError>
+    ensures are { IfOk result (λ r. option_map (λ v. map canon_view.expr_view v.items) r ≡ fold (argument_step (declares names.now) (knows.has locals.old)) (Some []) (map expr_view arguments.now)) }
+    ensures locals { OnOk result (knows.has locals.new ≡ knows.has locals.old) }
+{
+    let mut meanings = Some(Vec::new(alloc));
+    for argument in arguments {
+        let argument = meaning(alloc, names, locals, argument)?;
+        meanings = with_last(meanings, argument)?;
+    }
+    Ok(meanings)
+}
+
+/// What a chain means, where its first operand means `first`.
+#[cycle(meaning)]
+fn sum(
+    alloc: Global,
+    names: &Names,
+    locals: &mut BTreeSet<Units>,
+    first: Option<Expr>,
+    others: &[tree::Operand],
+) -> Result<Option<Expr>, AllocError>
+    ensures is { IfOk result (λ r. option_map canon_view.expr_view r ≡ fold (operand_step (declares names.now) (knows.has locals.old)) (option_map canon_view.expr_view first) (map operand_view others.now)) }
+    ensures locals { OnOk result (knows.has locals.new ≡ knows.has locals.old) }
+{
+    let mut sum = first;
+    for other in others {
+        let operand = meaning(alloc, names, locals, &other.operand)?;
+        sum = joined(alloc, other.operator, sum, operand)?;
+    }
+    Ok(sum)
+}
+
+/// What the fields of a record mean.
+#[cycle(meaning)]
+fn meanings_of_fields(
+    alloc: Global,
+    names: &Names,
+    locals: &mut BTreeSet<Units>,
+    fields: &[tree::Field],
+) -> Result<Option<Vec<Field>>, AllocError>
+    ensures are { IfOk result (λ r. option_map (λ v. map canon_view.field_view v.items) r ≡ fold (field_step (declares names.now) (knows.has locals.old)) (Some []) (map field_view fields.now)) }
+    ensures locals { OnOk result (knows.has locals.new ≡ knows.has locals.old) }
+{
+    let mut meanings = Some(Vec::new(alloc));
+    for field in fields {
+        let value = meaning(alloc, names, locals, &field.value)?;
+        meanings = with_field(alloc, meanings, field.name, value)?;
+    }
+    Ok(meanings)
+}
+
+/// What a function of these parameters means. Without parameters it is its body.
+#[cycle(meaning)]
+fn function(
+    alloc: Global,
+    names: &Names,
+    locals: &mut BTreeSet<Units>,
+    parameters: &[Pattern],
+    body: &tree::Expr,
+) -> Result<Option<Expr>, AllocError>
+    ensures is { IfOk result (λ r. option_map canon_view.expr_view r ≡ function_in (declares names.now) (map pattern_view parameters.now) (expr_view body.now) (knows.has locals.old)) }
+    ensures locals { OnOk result (knows.has locals.new ≡ knows.has locals.old) }
+{
+    if !enter(alloc, names, locals, parameters)? {
+        return Ok(None);
+    }
+    let body = meaning(alloc, names, locals, body)?;
+    leave(alloc, locals, parameters)?;
+    functions(alloc, parameters, body)
 }
 
 /// The use of a name.
@@ -176,7 +172,7 @@ fn variable(
     locals: &BTreeSet<Units>,
     name: &[u8],
 ) -> Result<Option<Expr>, AllocError>
-    ensures { IfOk result (λ r. option_map canon_view.expr_view r ≡ option_map canon.Var (found names.now locals.now.keys (units_of name.now))) }
+    ensures { IfOk result (λ r. option_map canon_view.expr_view r ≡ option_map canon.Var (found (declares names.now) (knows.has locals.now) (units_of name.now))) }
 {
     match reference(alloc, names, locals, name)? {
         None => Ok(None),
@@ -184,86 +180,51 @@ fn variable(
     }
 }
 
-/// What a name means.
+/// What a name means: a local one goes before one that the module declares.
 fn reference(
     alloc: Global,
     names: &Names,
     locals: &BTreeSet<Units>,
     name: &[u8],
 ) -> Result<Option<Ref>, AllocError>
-    ensures { IfOk result (λ r. option_map canon_view.ref_view r ≡ found names.now locals.now.keys (units_of name.now)) }
+    ensures { IfOk result (λ r. option_map canon_view.ref_view r ≡ found (declares names.now) (knows.has locals.now) (units_of name.now)) }
 {
     let name = units(alloc, name)?;
-    let is_local = locals.contains(&name);
-    match names.place(&name) {
-        Some(Place::Value) if is_local => Ok(Some(Ref::Local(name))),
-        Some(Place::Value) => Ok(Some(top(alloc, name)?)),
-        Some(Place::Port | Place::Main) => Ok(None),
-        None if is_local && !is_main(&name) => Ok(Some(Ref::Local(name))),
-        None => Ok(None),
+    if has(locals, &name) {
+        return Ok(Some(Ref::Local(name)));
     }
+    if names.is_declared(&name) {
+        return Ok(Some(top(alloc, "Main", name)?));
+    }
+    Ok(None)
 }
 
-/// One meaning behind others.
-fn with_last(
-    meanings: Option<Vec<Expr>>,
-    last: Option<Expr>,
-) -> Result<Option<Vec<Expr>>, AllocError>
-    ensures { IfOk result (λ r. option_map (λ v. map canon_view.expr_view v.items) r ≡ with_last (option_map (λ v. map canon_view.expr_view v.items) meanings) (option_map canon_view.expr_view last)) }
+/// The use of a core module's value.
+fn core_value(alloc: Global, name: &[u8]) -> Result<Option<Expr>, AllocError>
+    ensures { IfOk result (λ r. option_map canon_view.expr_view r ≡ option_map canon.Var (resolve.row_of name.now resolve.core_values)) }
 {
-    match (meanings, last) {
-        (Some(mut meanings), Some(last)) => {
-            meanings.push(last)?;
-            Ok(Some(meanings))
+    if name == b"Platform.worker".as_slice() {
+        return value(alloc, "Platform", "worker");
+    }
+    if name == b"Cmd.none".as_slice() {
+        return value(alloc, "Platform.Cmd", "none");
+    }
+    if name == b"Sub.none".as_slice() {
+        return value(alloc, "Platform.Sub", "none");
+    }
+    Ok(None)
+}
+
+/// Whether each field has a name of its own.
+fn are_distinct(alloc: Global, fields: &[tree::Field]) -> Result<bool, AllocError>
+    ensures { IfOk result (λ r. r ≡ resolve.are_distinct (map (λ f. f.name.now) fields.now)) }
+{
+    let mut names = BTreeSet::new(alloc);
+    for field in fields {
+        if names.contains(field.name) {
+            return Ok(false);
         }
-        _ => Ok(None),
+        names.insert(field.name)?;
     }
-}
-
-/// A function with its arguments. Where there are none, the function.
-fn called(
-    alloc: Global,
-    function: Option<Expr>,
-    arguments: Option<Vec<Expr>>,
-) -> Result<Option<Expr>, AllocError>
-    ensures { IfOk result (λ r. option_map canon_view.expr_view r ≡ called (option_map canon_view.expr_view function) (option_map (λ v. map canon_view.expr_view v.items) arguments)) }
-{
-    match (function, arguments) {
-        (Some(function), Some(arguments)) => Ok(Some(call(alloc, function, arguments)?)),
-        _ => Ok(None),
-    }
-}
-
-fn call(alloc: Global, function: Expr, arguments: Vec<Expr>) -> Result<Expr, AllocError>
-    ensures { IfOk result (λ e. canon_view.expr_view e ≡ call_of (canon_view.expr_view function) (map canon_view.expr_view arguments.items)) }
-{
-    if arguments.is_empty() {
-        return Ok(function);
-    }
-    Ok(Expr::Apply(Box::new(alloc, function)?, arguments))
-}
-
-/// The operator between two meanings.
-fn joined(
-    alloc: Global,
-    operator: &[u8],
-    left: Option<Expr>,
-    right: Option<Expr>,
-) -> Result<Option<Expr>, AllocError>
-    ensures { IfOk result (λ r. option_map canon_view.expr_view r ≡ joined operator.now (option_map canon_view.expr_view left) (option_map canon_view.expr_view right)) }
-{
-    if operator != b"+".as_slice() {
-        return Ok(None);
-    }
-    added(alloc, left, right)
-}
-
-/// The sum of two meanings.
-fn added(alloc: Global, left: Option<Expr>, right: Option<Expr>) -> Result<Option<Expr>, AllocError>
-    ensures { IfOk result (λ r. option_map canon_view.expr_view r ≡ added (option_map canon_view.expr_view left) (option_map canon_view.expr_view right)) }
-{
-    match (left, right) {
-        (Some(left), Some(right)) => Ok(Some(add(alloc, left, right)?)),
-        _ => Ok(None),
-    }
+    Ok(true)
 }

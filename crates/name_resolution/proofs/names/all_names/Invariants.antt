@@ -1,8 +1,7 @@
-use Rattle.std.proofs.Common.{[], take}
-use Rattle.std.specs.List.{fold}
+use Rattle.std.proofs.Common.{map, take}
+use Rattle.elm_tree.specs.View.{declaration_view}
 use Rattle.name_resolution.specs.Reading.{AreNames}
-use Rattle.name_resolution.proofs.Growing.{one_more}
 use Rattle.name_resolution.proofs.names.all_names.Given as goal
 
 abbrev pub invariant-loop-declaration : goal.invariant-loop-declaration
-invariant-loop-declaration l = AreNames (fold one_more [] (take l.declaration-index l.declarations)) l.names
+invariant-loop-declaration l = AreNames (map declaration_view (take l.declaration-index l.declarations)) l.names

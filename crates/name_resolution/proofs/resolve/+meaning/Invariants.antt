@@ -2,13 +2,25 @@ use Rattle.std.proofs.Common.{◌≡◌, [], Some, take, map}
 use Rattle.std.specs.Prelude.{option_map}
 use Rattle.std.specs.List.{fold}
 use Rattle.elm_canon.specs.View as canon_view
-use Rattle.elm_tree.specs.View.{expr_view, operand_view}
-use Rattle.name_resolution.specs.Reading.{found}
-use Rattle.name_resolution.proofs.Folds.{argument_step, operand_step}
+use Rattle.elm_tree.specs.View.{expr_view, operand_view, field_view}
+use Rattle.name_resolution.specs.Knows.{has, declares}
+use Rattle.name_resolution.specs.Reading.{argument_step, operand_step, field_step}
 use Rattle.name_resolution.proofs.resolve.+meaning.Given as goal
 
-abbrev pub invariant-loop-argument : goal.invariant-loop-argument
-invariant-loop-argument l = option_map (λ v. map canon_view.expr_view v.items) l.meanings ≡ fold (argument_step (found l.names l.locals.keys)) (Some []) (map expr_view (take l.argument-index l.argument-items))
+abbrev pub invariant-meanings-loop-argument : goal.invariant-meanings-loop-argument
+invariant-meanings-loop-argument l = record {
+  are : option_map (λ v. map canon_view.expr_view v.items) l.meanings ≡ fold (argument_step (declares l.names) (has l.initial.locals)) (Some []) (map expr_view (take l.argument-index l.arguments));
+  locals : has l.locals ≡ has l.initial.locals;
+}
 
-abbrev pub invariant-loop-other : goal.invariant-loop-other
-invariant-loop-other l = option_map canon_view.expr_view l.sum ≡ fold (operand_step (found l.names l.locals.keys)) (option_map canon_view.expr_view l.initial.sum) (map operand_view (take l.other-index l.other-items))
+abbrev pub invariant-meanings_of_fields-loop-field : goal.invariant-meanings_of_fields-loop-field
+invariant-meanings_of_fields-loop-field l = record {
+  are : option_map (λ v. map canon_view.field_view v.items) l.meanings ≡ fold (field_step (declares l.names) (has l.initial.locals)) (Some []) (map field_view (take l.field-index l.fields));
+  locals : has l.locals ≡ has l.initial.locals;
+}
+
+abbrev pub invariant-sum-loop-other : goal.invariant-sum-loop-other
+invariant-sum-loop-other l = record {
+  is : option_map canon_view.expr_view l.sum ≡ fold (operand_step (declares l.names) (has l.initial.locals)) (option_map canon_view.expr_view l.initial.sum) (map operand_view (take l.other-index l.others));
+  locals : has l.locals ≡ has l.initial.locals;
+}
