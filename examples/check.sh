@@ -30,3 +30,4 @@ check() { # EXAMPLE LINE
 
 check answer "out 42"
 check parcel "price 810"
+check meter "reading 132"

@@ -1,3 +1,4 @@
 pub mod Scopes
 pub mod Typed
 pub mod Solved
+pub mod Once
