@@ -41,7 +41,7 @@ core_before items gs =
     (with_core items (codes "Platform.Sub") (codes "none") EmptyBatch
     (with_core items (codes "Platform") (codes "worker") (Wrapper 0) gs))
 
-core_append : (items : List Item) (m x : List ℕ) (k : Known) (gs rest : List Group) → with_core items m x k gs ++ rest ≡ with_core items m x k (gs ++ rest)
+pub core_append : (items : List Item) (m x : List ℕ) (k : Known) (gs rest : List Group) → with_core items m x k gs ++ rest ≡ with_core items m x k (gs ++ rest)
 core_append items m x k gs rest = at (list_any (uses_name m x) items)
   where
     at : (b : Bool) → (if b then Given (Top m x) k ∷ gs else gs) ++ rest ≡ (if b then Given (Top m x) k ∷ (gs ++ rest) else gs ++ rest)

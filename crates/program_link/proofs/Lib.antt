@@ -1,7 +1,11 @@
+pub mod Entries
 pub mod Unique
 pub mod Found
 pub mod Views
+pub mod TypeViews
+pub mod Walks
 pub mod Sweep
 pub mod Kept
 pub mod Moves
+pub mod CoreGroups
 pub mod Linked

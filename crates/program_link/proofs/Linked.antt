@@ -1,23 +1,25 @@
 -- The program that the items of a module are.
-use Rattle.std.proofs.Common.{◌≡◌, ◌⊎◌, inl, inr, ⊎_elim, ℕ, zero, suc, ◌<◌, ◌≤◌, List, [], ◌∷◌, ◌++◌, Bool, true, false, Option, Some, None, length, get_or, set, replicate, map, codes, Vec, Global, refl, sym, ap, ◌∙◌, subst, arith}
+use Rattle.std.proofs.Common.{◌≡◌, ◌⊎◌, inl, inr, ⊎_elim, ℕ, zero, suc, ◌<◌, ◌≤◌, List, [], ◌∷◌, Bool, true, false, Option, Some, None, length, get_or, set, replicate, map, codes, Vec, Global, refl, sym, ap, ◌∙◌, subst, arith}
 use Rattle.std.specs.Prelude.{◌↔◌, option_map}
 use Rattle.std.specs.List.{All, Contains}
 use Rattle.std.proofs.lemmas.Bool.{both_ways, cases_eq, cases_lt}
 use Rattle.std.proofs.lemmas.List.{get_or-map, length-map, get_or_past, length-set, get_or-set_same, get_or-set_other, length-replicate}
 use Rattle.std.proofs.lemmas.List.Elements.{Contains-get_or}
-use Rattle.elm_canon.specs.Tree.{Group, Project}
+use Rattle.elm_canon.specs.Tree.{IntPayload, Flags, Group, Project}
 use Rattle.decl_groups.specs.Groups.{plain, Uses, Reaches, IsGroup, IsOrder, all_placed, next}
 use Rattle.decl_groups.proofs.Basics.{no_member, member_cases}
 use Rattle.decl_groups.proofs.Unique.{one_order}
 use Rattle.program_laws.specs.Items.{Item, PortItem, ValueItem}
-use Rattle.program_laws.specs.Link.{item_name, place_of, places_of, names_used, item_uses, uses_of, groups_at, core_groups, IsProgram}
+use Rattle.program_laws.specs.Link.{item_name, place_of, places_of, names_used, item_uses, uses_of, item_at, groups_at, IsProgram}
 use Rattle.program_laws.proofs.Places.{place_is}
 use Rattle.program_link.specs.Uses.{place_before}
 use Rattle.program_link.specs.Marks.{is_marked, sweep}
-use Rattle.program_link.specs.Taken.{kept_groups}
+use Rattle.program_link.specs.Entry.{item_flags}
+use Rattle.program_link.specs.Taken.{chosen, with_core_groups, kept_groups}
 use Rattle.program_link.specs.Program.{program_with}
 use Rattle.program_link.proofs.Sweep.{swept, sweep_length}
-use Rattle.program_link.proofs.Kept.{chosen, chosen_groups, kept_chosen, chosen_some, chosen_none, chosen_reached}
+use Rattle.program_link.proofs.Entries.{flags_entry}
+use Rattle.program_link.proofs.Kept.{chosen_groups, kept_chosen, chosen_some, chosen_none, chosen_reached}
 
 -- ---- what is used has a place
 
@@ -39,7 +41,7 @@ places_within names (x ∷ xs) j h = at (place_of x names) refl (places_within n
         (member_cases i j (places_of names xs) (subst (λ o. Contains (place_before o (places_of names xs)) j) e (subst (λ is. Contains is j) (places_first names x xs) h)))
 
 item_within : (m : List ℕ) (names : List (List ℕ)) (item : Item) (j : ℕ) → Contains (item_uses m names item) j → j < length names
-item_within m names (PortItem x) j h = absurd (no_member j h)
+item_within m names (PortItem x p) j h = absurd (no_member j h)
 item_within m names (ValueItem x t c) j h = places_within names (names_used m c) j h
 
 uses_length : (m : List ℕ) (items : List Item) → length (uses_of m items) ≡ length items
@@ -50,8 +52,8 @@ uses_within m items i j u = at (cases_lt i (length items))
   where
     at : (i < length items) ⊎ (length items ≤ i) → j < length (uses_of m items)
     at (inl l) =
-        let k : j < length (map item_name items) = item_within m (map item_name items) (get_or items i (PortItem [])) j
-        (subst (λ us. Contains us j) (get_or-map (item_uses m (map item_name items)) items i (PortItem []) [] l) u) in
+        let k : j < length (map item_name items) = item_within m (map item_name items) (get_or items i (PortItem [] IntPayload)) j
+        (subst (λ us. Contains us j) (get_or-map (item_uses m (map item_name items)) items i (PortItem [] IntPayload) [] l) u) in
         omega (arith, k, length-map items item_name, uses_length m items)
     at (inr past) = absurd (no_member j (subst (λ us. Contains us j) (get_or_past (uses_of m items) i [] (omega (arith, past, uses_length m items))) u))
 
@@ -106,13 +108,13 @@ module _ (m : List ℕ) (items : List Item) (order : List (List ℕ)) (start : �
       only_start)
 
   -- the groups that are kept are a program's
-  pub is_program : (all : List Group) → option_map (λ gs. core_groups ++ gs) (kept_groups m (uses_of m items) marks items order) ≡ Some all → IsProgram m items (program_with m all)
-  is_program all h = at (kept_groups m (uses_of m items) marks items order) (kept_chosen m items marks ordered) h
+  pub is_program : (flags : Flags) → item_flags (item_at items start) ≡ Some flags → (all : List Group) → option_map (with_core_groups items marks order) (kept_groups m (uses_of m items) marks items order) ≡ Some all → IsProgram m items (program_with m all flags)
+  is_program flags e all h = at (kept_groups m (uses_of m items) marks items order) (kept_chosen m items marks ordered) h
     where
-      at : (r : Option (List Group)) → r ≡ chosen_groups m items marks order → option_map (λ gs. core_groups ++ gs) r ≡ Some all → IsProgram m items (program_with m all)
-      at None e h = absurd (cc)
-      at (Some gs) e h =
-          let c = chosen_some m items marks order gs (sym e) in
+      at : (r : Option (List Group)) → r ≡ chosen_groups m items marks order → option_map (with_core_groups items marks order) r ≡ Some all → IsProgram m items (program_with m all flags)
+      at None q h = absurd (cc)
+      at (Some gs) q h =
+          let c = chosen_some m items marks order gs (sym q) in
           record {
             order = order;
             ordered = ordered;
@@ -120,24 +122,22 @@ module _ (m : List ℕ) (items : List Item) (order : List (List ℕ)) (start : �
             grouped = c.0.1;
             start = start;
             found = found;
-            kept = chosen m items marks order;
+            flags = flags;
+            entry = flags_entry (item_at items start) flags e;
+            kept = chosen marks order;
             reached = chosen_reached m items marks start order marks_reached;
             groups = gs;
             chosen = c.1;
-            is = ap (program_with m) (cc);
+            is = ap (λ fs. program_with m fs flags) (cc);
           }
 
   -- where a group may not stand, there is no program
-  pub no_program : option_map (λ gs. core_groups ++ gs) (kept_groups m (uses_of m items) marks items order) ≡ None → (p : Project) → IsProgram m items p → ⊥
+  pub no_program : option_map (with_core_groups items marks order) (kept_groups m (uses_of m items) marks items order) ≡ None → (p : Project) → IsProgram m items p → ⊥
   no_program h p q = at (kept_groups m (uses_of m items) marks items order) (kept_chosen m items marks ordered) h
     where
-      at : (r : Option (List Group)) → r ≡ chosen_groups m items marks order → option_map (λ gs. core_groups ++ gs) r ≡ None → ⊥
+      at : (r : Option (List Group)) → r ≡ chosen_groups m items marks order → option_map (with_core_groups items marks order) r ≡ None → ⊥
       at (Some gs) e h = absurd (cc)
       at None e h = chosen_none m items marks order q.all (sym e) (ap (groups_at m items) (one_order ordered q.ordered) ∙ q.grouped)
-
--- where there is no `main`, there is no program
-pub no_main : (m : List ℕ) (items : List Item) → place_of (codes "main") (map item_name items) ≡ None → (p : Project) → IsProgram m items p → ⊥
-no_main m items e p q = absurd (let h = q.found in cc)
 
 -- ---- the same of vectors
 
@@ -170,10 +170,10 @@ module _ (m : List ℕ) (items : List Item) (uses : List (Vec ℕ Global)) (are 
           ap length is ∙ sweep_length (plain uses) (plain order) (set (replicate (length uses) false) start true) ∙ length-set (replicate (length uses) false) start true
           ∙ length-replicate (length uses) false ∙ items_count
 
-      pub linked_some : (all : List Group) → option_map (λ gs. core_groups ++ gs) (kept_groups m (plain uses) marks items (plain order)) ≡ Some all → IsProgram m items (program_with m all)
-      linked_some all h =
-          is_program m items (plain order) start marks same_order found same_marks all (ap (λ us. option_map (λ gs. core_groups ++ gs) (kept_groups m us marks items (plain order))) (sym are) ∙ h)
+      pub linked_some : (flags : Flags) → item_flags (item_at items start) ≡ Some flags → (all : List Group) → option_map (with_core_groups items marks (plain order)) (kept_groups m (plain uses) marks items (plain order)) ≡ Some all → IsProgram m items (program_with m all flags)
+      linked_some flags e all h =
+          is_program m items (plain order) start marks same_order found same_marks flags e all (ap (λ us. option_map (with_core_groups items marks (plain order)) (kept_groups m us marks items (plain order))) (sym are) ∙ h)
 
-      pub linked_none : option_map (λ gs. core_groups ++ gs) (kept_groups m (plain uses) marks items (plain order)) ≡ None → (p : Project) → IsProgram m items p → ⊥
+      pub linked_none : option_map (with_core_groups items marks (plain order)) (kept_groups m (plain uses) marks items (plain order)) ≡ None → (p : Project) → IsProgram m items p → ⊥
       linked_none h =
-          no_program m items (plain order) start marks same_order found same_marks (ap (λ us. option_map (λ gs. core_groups ++ gs) (kept_groups m us marks items (plain order))) (sym are) ∙ h)
+          no_program m items (plain order) start marks same_order found same_marks (ap (λ us. option_map (with_core_groups items marks (plain order)) (kept_groups m us marks items (plain order))) (sym are) ∙ h)

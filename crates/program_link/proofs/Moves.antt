@@ -3,6 +3,7 @@ use Rattle.std.proofs.Common.{◌≡◌, ℕ, suc, ◌<◌, ◌≤◌, List, [],
 use Rattle.std.specs.Prelude.{◌+◌, option_map}
 use Rattle.std.proofs.lemmas.List.{drop_all}
 use Rattle.elm_canon.specs.Tree as canon
+use Rattle.elm_canon.specs.Tree.{IntPayload}
 use Rattle.elm_canon.specs.View.{ref_view, pattern_view, expr_view}
 use Rattle.elm_canon.specs.View as canon_view
 use Rattle.elm_canon.specs.declared.tree.Def.{Def}
@@ -24,7 +25,7 @@ push_some ds d (Some rest) = ap Some (before_push ds d rest)
 
 -- one more function
 pub function_more : (m : List ℕ) (ds new : List Def) (d : Def) (x : Item) (items next : List Item) (places : List ℕ) (k : ℕ) → k < length places → new ≡ ds ++ d ∷ []
-    → x ≡ get_or items (get_or places k 0) (PortItem []) → next ≡ set items (get_or places k 0) (PortItem [])
+    → x ≡ get_or items (get_or places k 0) (PortItem [] IntPayload) → next ≡ set items (get_or places k 0) (PortItem [] IntPayload)
     → ((behind : List Item) → defs_of m (x ∷ behind) ≡ with_def (Some d) (defs_of m behind))
     → option_map (defs_before new) (defs_of m (taken next (drop (k + 1) places))) ≡ option_map (defs_before ds) (defs_of m (taken items (drop k places)))
 function_more m ds new d x items next places k l n e f h =
@@ -32,16 +33,16 @@ function_more m ds new d x items next places k l n e f h =
     let rest = drop (suc k) places in
     ap (λ j. option_map (defs_before new) (defs_of m (taken next (drop j places)))) (one k)
     ∙ ap (λ v. option_map (defs_before new) (defs_of m (taken v rest))) f
-    ∙ ap (λ v. option_map (defs_before v) (defs_of m (taken (set items i (PortItem [])) rest))) n
-    ∙ push_some ds d (defs_of m (taken (set items i (PortItem [])) rest))
-    ∙ ap (option_map (defs_before ds)) (sym (h (taken (set items i (PortItem [])) rest)))
-    ∙ ap (λ v. option_map (defs_before ds) (defs_of m (v ∷ taken (set items i (PortItem [])) rest))) e
+    ∙ ap (λ v. option_map (defs_before v) (defs_of m (taken (set items i (PortItem [] IntPayload)) rest))) n
+    ∙ push_some ds d (defs_of m (taken (set items i (PortItem [] IntPayload)) rest))
+    ∙ ap (option_map (defs_before ds)) (sym (h (taken (set items i (PortItem [] IntPayload)) rest)))
+    ∙ ap (λ v. option_map (defs_before ds) (defs_of m (v ∷ taken (set items i (PortItem [] IntPayload)) rest))) e
     ∙ ap (λ ps. option_map (defs_before ds) (defs_of m (taken items ps))) (sym (drop-cons places k 0 l))
   where
     one : (n : ℕ) → n + 1 ≡ suc n
     one n = omega arith
 
-pub left_more : (items next : List Item) (places : List ℕ) (k : ℕ) → k < length places → next ≡ set items (get_or places k 0) (PortItem []) → left next (drop (k + 1) places) ≡ left items (drop k places)
+pub left_more : (items next : List Item) (places : List ℕ) (k : ℕ) → k < length places → next ≡ set items (get_or places k 0) (PortItem [] IntPayload) → left next (drop (k + 1) places) ≡ left items (drop k places)
 left_more items next places k l f =
     ap (λ j. left next (drop j places)) (one k) ∙ ap (λ v. left v (drop (suc k) places)) f ∙ ap (left items) (sym (drop-cons places k 0 l))
   where

@@ -2,9 +2,11 @@
 use Rattle.std.proofs.Common.{◌≡◌, ℕ, List, ◌∷◌, ◌++◌, Some, refl, sym, ap, ◌∙◌, subst}
 use Rattle.elm_canon.specs.Tree.{Project}
 use Rattle.program_link.specs.Program.{program_with}
+use Rattle.program_link.specs.Entry.{item_flags}
+use Rattle.program_link.proofs.Entries.{entry_flags}
 use Rattle.decl_groups.proofs.Unique.{one_order}
 use Rattle.program_laws.specs.Items.{Item}
-use Rattle.program_laws.specs.Link.{uses_of, groups_at, core_groups, AreReached, none_reached, reached, not_reached, IsProgram}
+use Rattle.program_laws.specs.Link.{item_at, items_in, uses_of, groups_at, core_groups, AreReached, none_reached, reached, not_reached, IsProgram}
 
 -- what is reached of an order is known
 one_kept : {uses : List (List ℕ)} {start : ℕ} {order ks ls : List (List ℕ)} → AreReached uses start order ks → AreReached uses start order ls → ks ≡ ls
@@ -24,4 +26,7 @@ one_program m items p q a b =
     let there : AreReached (uses_of m items) b.start b.order a.kept = subst (λ s. AreReached (uses_of m items) s b.order a.kept) start (subst (λ o. AreReached (uses_of m items) a.start o a.kept) order a.reached) in
     let kept : a.kept ≡ b.kept = one_kept there b.reached in
     let groups : a.groups ≡ b.groups = same_some a.groups b.groups (sym a.chosen ∙ ap (groups_at m items) kept ∙ b.chosen) in
-    a.is ∙ ap (λ gs. program_with m (core_groups ++ gs)) groups ∙ sym b.is
+    let flags : a.flags ≡ b.flags =
+    same_some a.flags b.flags (sym (entry_flags (item_at items a.start) a.flags a.entry) ∙ ap (λ s. item_flags (item_at items s)) start ∙ entry_flags (item_at items b.start) b.flags b.entry) in
+    a.is ∙ ap (λ k. program_with m (core_groups (items_in items k) ++ a.groups) a.flags) kept ∙ ap (λ gs. program_with m (core_groups (items_in items b.kept) ++ gs) a.flags) groups
+    ∙ ap (program_with m (core_groups (items_in items b.kept) ++ b.groups)) flags ∙ sym b.is

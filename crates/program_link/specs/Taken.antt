@@ -1,7 +1,8 @@
 -- The groups of a program, as its items are taken one after the other, so that none is copied.
-use Rattle.std.specs.Prelude.{ℕ, List, [], ◌∷◌, ◌++◌, map, Bool, true, false, Option, Some, None, option_map, option_and_then}
+use Rattle.std.specs.Prelude.{ℕ, List, [], ◌∷◌, ◌++◌, map, Bool, true, false, Option, Some, None, option_map, option_and_then, if◌then◌else◌}
 use Rattle.std.specs.List.{slice_index_or, slice_set}
 use Rattle.elm_canon.specs.Tree as canon
+use Rattle.elm_canon.specs.Tree.{IntPayload}
 use Rattle.elm_canon.specs.View.{ref_view, pattern_view, expr_view, group_view}
 use Rattle.elm_canon.specs.declared.tree.Def as def
 use Rattle.elm_canon.specs.declared.tree.Group as group
@@ -9,18 +10,32 @@ use Rattle.program_laws.specs.declared.items.Item as item
 use Rattle.program_laws.specs.View.{item_view}
 use Rattle.decl_groups.specs.Groups.{position_of}
 use Rattle.program_laws.specs.Items.{Item, PortItem}
-use Rattle.program_laws.specs.Link.{group_of, is_recursive}
+use Rattle.program_laws.specs.Link.{group_of, is_recursive, items_in, core_groups}
 use Rattle.program_link.specs.Marks.{is_marked}
 
 -- the items at the places; what was taken leaves a port without a name
 abbrev pub taken : List Item → List ℕ → List Item
 taken items [] = []
-taken items (i ∷ places) = slice_index_or items i (PortItem []) ∷ taken (slice_set items i (PortItem [])) places
+taken items (i ∷ places) = slice_index_or items i (PortItem [] IntPayload) ∷ taken (slice_set items i (PortItem [] IntPayload)) places
 
 -- the items that are left behind them
 abbrev pub left : List Item → List ℕ → List Item
 left items [] = items
-left items (i ∷ places) = left (slice_set items i (PortItem [])) places
+left items (i ∷ places) = left (slice_set items i (PortItem [] IntPayload)) places
+
+-- the groups of the order of which the first place is marked
+abbrev pub chosen : List Bool → List (List ℕ) → List (List ℕ)
+chosen marks [] = []
+chosen marks (group ∷ order) = if is_marked marks (position_of group) then group ∷ chosen marks order else chosen marks order
+
+-- the places of groups
+abbrev pub places_in : List (List ℕ) → List ℕ
+places_in [] = []
+places_in (group ∷ order) = group ++ places_in order
+
+-- the core values that the items of these groups use, before other groups
+abbrev pub with_core_groups : List Item → List Bool → List (List ℕ) → List canon.Group → List canon.Group
+with_core_groups items marks order groups = core_groups (items_in items (chosen marks order)) ++ groups
 
 -- a group before others, where its first place is marked
 abbrev pub with_group : Bool → canon.Group → List canon.Group → List canon.Group

@@ -10,9 +10,9 @@ ghost use Rattle.decl_groups.specs.Groups.{plain};
 ghost use Rattle.program_laws.specs.Items as declared;
 ghost use Rattle.program_laws.specs.View.{item_view};
 ghost use Rattle.program_laws.specs.Link as link;
-ghost use Rattle.program_link.specs.Taken.{taken, left, kept_groups, with_def, defs_before, views, with_kept};
+ghost use Rattle.program_link.specs.Taken.{taken, left, chosen, places_in, with_core_groups, kept_groups, with_def, defs_before, views, with_kept};
 
-use crate::words::{given, units};
+use crate::core_values::core_groups;
 use elm_base::units::Units;
 use elm_canon::tree::{Def, Expr, Group, Known, Payload, Ref};
 use program_laws::items::Item;
@@ -34,15 +34,32 @@ pub(crate) fn groups(
     requires members { All (λ group. All (λ j. j < length items.items) group.items) order.now }
     requires not_empty { All (λ group. 0 < length group.items) order.now }
     ensures { IfOk result (λ groups. option_map (λ gs. map group_view gs.items) groups
-        ≡ option_map (λ gs. link.core_groups ++ gs) (kept_groups home.now (plain uses.now) marks.now (views items.items) (plain order.now))) }
+        ≡ option_map (with_core_groups (views items.items) marks.now (plain order.now)) (kept_groups home.now (plain uses.now) marks.now (views items.items) (plain order.now))) }
 {
-    let mut groups = core_groups(alloc)?;
+    let kept = kept_places(alloc, order, marks)?;
+    let mut groups = core_groups(alloc, &items, &kept)?;
     for places in order {
         if !push_group(alloc, home, uses, marks, places, &mut items, &mut groups)? {
             return Ok(None);
         }
     }
     Ok(Some(groups))
+}
+
+/// The places of the groups of the order of which the first place is marked.
+fn kept_places(alloc: Global, order: &[Vec<u32>], marks: &[bool]) -> Result<Vec<u32>, AllocError>
+    requires members { All (λ group. All (λ j. j < length marks.now) group.items) order.now }
+    requires not_empty { All (λ group. 0 < length group.items) order.now }
+    ensures kept { IfOk result (λ places. places.items ≡ places_in (chosen marks.now (plain order.now))) }
+    ensures within { IfOk result (λ places. All (λ j. j < length marks.now) places.items) }
+{
+    let mut kept = Vec::new(alloc);
+    for group in order {
+        if marks[group[0] as usize] {
+            kept.extend_from_slice(group)?;
+        }
+    }
+    Ok(kept)
 }
 
 /// Adds the group of the places, where its first place is marked. Not so, where the group may not stand.
@@ -120,13 +137,13 @@ fn is_among(place: u32, places: &[u32]) -> bool
 /// Takes the item at a place, and leaves a port without a name.
 fn take(alloc: Global, items: &mut Vec<Item>, place: usize) -> Item
     requires { place < length items.old.items }
-    ensures item { item_view result ≡ slice_index_or (views items.old.items) place (declared.PortItem []) }
-    ensures left { views items.new.items ≡ slice_set (views items.old.items) place (declared.PortItem []) }
+    ensures item { item_view result ≡ slice_index_or (views items.old.items) place (declared.PortItem [] canon.IntPayload) }
+    ensures left { views items.new.items ≡ slice_set (views items.old.items) place (declared.PortItem [] canon.IntPayload) }
     ensures count { length items.new.items ≡ length items.old.items }
 {
     mem::replace(
         &mut items[place],
-        Item::Port(Units::from_vec(Vec::new(alloc))),
+        Item::Port(Units::from_vec(Vec::new(alloc)), Payload::Int),
     )
 }
 
@@ -135,12 +152,11 @@ fn single(alloc: Global, home: &Units, item: Item) -> Result<Group, AllocError>
     ensures { IfOk result (λ made. link.single home.now (item_view item) ≡ Some (group_view made)) }
 {
     match item {
-        Item::Port(name) => {
+        Item::Port(name, payload) => {
             let name = name_in(home, name)?;
-            Ok(Group::Given(name, Known::OutPort(Payload::Int)))
+            Ok(Group::Given(name, Known::OutPort(payload)))
         }
         Item::Value(value) => single_value(alloc, home, value.name, value.body),
-        Item::Main(body) => single_value(alloc, home, units(alloc, "main")?, body),
     }
 }
 
@@ -178,7 +194,7 @@ fn functions(
     let mut defs = Vec::with_capacity(alloc, places.len())?;
     for place in places {
         let item = take(alloc, items, *place as usize);
-        match function(alloc, home, item)? {
+        match function(home, item)? {
             None => return Ok(None),
             Some(def) => defs.push(def)?,
         }
@@ -187,13 +203,12 @@ fn functions(
 }
 
 /// The function that an item is.
-fn function(alloc: Global, home: &Units, item: Item) -> Result<Option<Def>, AllocError>
+fn function(home: &Units, item: Item) -> Result<Option<Def>, AllocError>
     ensures { IfOk result (λ def. (behind : List declared.Item) → link.defs_of home.now (item_view item ∷ behind) ≡ with_def def (link.defs_of home.now behind)) }
 {
     match item {
-        Item::Port(_) => Ok(None),
+        Item::Port(_, _) => Ok(None),
         Item::Value(value) => function_of(home, value.name, value.body),
-        Item::Main(body) => function_of(home, units(alloc, "main")?, body),
     }
 }
 
@@ -218,15 +233,4 @@ fn name_in(home: &Units, name: Units) -> Result<Ref, AllocError>
 {
     let module = home.clone()?;
     Ok(Ref::Top { module, name })
-}
-
-/// The values of the core modules.
-fn core_groups(alloc: Global) -> Result<Vec<Group>, AllocError>
-    ensures { IfOk result (λ groups. map group_view groups.items ≡ link.core_groups) }
-{
-    let mut groups = Vec::with_capacity(alloc, 3)?;
-    groups.push(given(alloc, "Platform.Cmd", "none", Known::EmptyBatch)?)?;
-    groups.push(given(alloc, "Platform.Sub", "none", Known::EmptyBatch)?)?;
-    groups.push(given(alloc, "Platform", "worker", Known::Wrapper(0))?)?;
-    Ok(groups)
 }

@@ -2,6 +2,8 @@
 #![tactic(auto)]
 
 mod build;
+mod core_values;
+mod entry;
 pub mod laws;
 pub mod link;
 mod reach;

@@ -9,7 +9,6 @@ ghost use Rattle.program_laws.specs.View.{item_view};
 ghost use Rattle.program_laws.specs.Link.{item_name, name_in, names_used, names_used_in_all, names_used_in_fields, place_of, item_uses, uses_of};
 ghost use Rattle.program_link.specs.Uses.{place_in, first_place, places_by};
 
-use crate::words::units;
 use elm_base::units::Units;
 use elm_canon::tree::{Expr, Field, Ref};
 use program_laws::items::Item;
@@ -23,19 +22,18 @@ pub(crate) fn places(alloc: Global, items: &[Item]) -> Result<BTreeMap<Units, u3
 {
     let mut places = BTreeMap::new(alloc);
     for (i, item) in items.iter().enumerate() {
-        add_place(&mut places, name_of(alloc, item)?, i as u32)?;
+        add_place(&mut places, name_of(item)?, i as u32)?;
     }
     Ok(places)
 }
 
 /// An item's name.
-fn name_of(alloc: Global, item: &Item) -> Result<Units, AllocError>
+fn name_of(item: &Item) -> Result<Units, AllocError>
     ensures { IfOk result (λ name. name ≡ item_name (item_view item.now)) }
 {
     match item {
-        Item::Port(name) => name.clone(),
+        Item::Port(name, _) => name.clone(),
         Item::Value(value) => value.name.clone(),
-        Item::Main(_) => units(alloc, "main"),
     }
 }
 
@@ -77,9 +75,8 @@ fn item_uses(
 {
     let mut uses = Vec::new(alloc);
     match item {
-        Item::Port(_) => {}
+        Item::Port(_, _) => {}
         Item::Value(value) => push_uses(home, places, &value.body, &mut uses)?,
-        Item::Main(body) => push_uses(home, places, body, &mut uses)?,
     }
     Ok(uses)
 }

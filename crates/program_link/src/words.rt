@@ -2,23 +2,11 @@
 
 ghost use Rattle.std.specs.Prelude.{◌≡◌, IfOk};
 ghost use Rattle.elm_canon.specs.Tree as canon;
-ghost use Rattle.elm_canon.specs.View.{ref_view, group_view, known_view};
+ghost use Rattle.elm_canon.specs.View.{ref_view};
 
 use elm_base::units::Units;
-use elm_canon::tree::{Group, Known, Ref};
+use elm_canon::tree::Ref;
 use std::alloc::{AllocError, Global};
-
-/// A value of a module that is declared without a body.
-pub(crate) fn given(
-    alloc: Global,
-    module_name: &str,
-    name: &str,
-    known: Known,
-) -> Result<Group, AllocError>
-    ensures { IfOk result (λ g. group_view g ≡ canon.Given (canon.Top module_name.now name.now) (known_view known)) }
-{
-    Ok(Group::Given(top(alloc, module_name, name)?, known))
-}
 
 /// A name of a module.
 pub(crate) fn top(alloc: Global, module_name: &str, name: &str) -> Result<Ref, AllocError>

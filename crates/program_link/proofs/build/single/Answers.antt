@@ -1,8 +1,6 @@
-use Rattle.std.proofs.Common.{sym, ap, ◌∙◌}
+use Rattle.std.proofs.Common.{ap, ◌∙◌}
 use Rattle.std.proofs.lemmas.Result.{IfOk-weaker}
-use Rattle.elm_canon.specs.View.{expr_view}
 use Rattle.elm_type.specs.View.{type_view}
-use Rattle.program_laws.specs.Items.{ValueItem, main_type}
 use Rattle.program_laws.specs.Link.{single}
 use Rattle.program_laws.specs.View.{item_view}
 use Rattle.program_link.proofs.build.single.Goals as goal
@@ -10,9 +8,3 @@ use Rattle.program_link.proofs.build.single.Goals as goal
 pub returns-in-Value : goal.returns-in-Value
 returns-in-Value c = IfOk-weaker c.single_value.result _ _ (λ made h.
     ap (λ i. single c.args.home.now (item_view i)) c.in-Value.is ∙ h (type_view c.in-Value.value.annotation)) c.single_value.ensures
-
-pub returns-in_ok-units-in-Main : goal.returns-in_ok-units-in-Main
-returns-in_ok-units-in-Main c = IfOk-weaker c.single_value-in-Main.result _ _ (λ made h.
-    ap (λ i. single c.args.home.now (item_view i)) c.in-Main.is
-    ∙ ap (λ x. single c.args.home.now (ValueItem x main_type (expr_view c.in-Main.body))) (sym c.in_ok-units-in-Main.ensures)
-    ∙ h main_type) c.single_value-in-Main.ensures

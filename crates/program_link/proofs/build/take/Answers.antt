@@ -1,5 +1,6 @@
 use Rattle.std.proofs.Common.{◌∙◌, ap, set}
 use Rattle.std.proofs.lemmas.List.{map-set}
+use Rattle.elm_canon.specs.Tree.{IntPayload}
 use Rattle.program_laws.specs.View.{item_view}
 use Rattle.program_laws.specs.Items.{PortItem}
 use Rattle.program_link.specs.Taken.{views}
@@ -10,4 +11,4 @@ returns-clause-left c =
     let items = c.args.items.now.items in
     map-set item_view items c.args.place c.replace.new.dest
     ∙ ap (λ x. set (views items) c.args.place (item_view x)) c.replace.ensures.after
-    ∙ ap (λ x. set (views items) c.args.place (PortItem x)) (c.from_vec.ensures ∙ c.new.ensures.items)
+    ∙ ap (λ x. set (views items) c.args.place (PortItem x IntPayload)) (c.from_vec.ensures ∙ c.new.ensures.items)

@@ -1,12 +1,12 @@
-use Rattle.std.proofs.Common.{◌∙◌, ap, sym, subst, map, codes, length, [], ◌++◌, ◌<◌, set, replicate, true, false}
+use Rattle.std.proofs.Common.{◌∙◌, ap, sym, subst, map, codes, length, [], ◌<◌, set, replicate, true, false}
 use Rattle.decl_groups.specs.Groups.{plain, IsOrder}
 use Rattle.std.specs.Prelude.{option_map}
 use Rattle.std.specs.List.{All}
 use Rattle.std.proofs.lemmas.List.{length-map}
-use Rattle.elm_canon.specs.View.{group_view}
-use Rattle.program_laws.specs.Link.{IsProgram, core_groups}
+use Rattle.elm_canon.specs.View.{group_view, flags_view}
+use Rattle.program_laws.specs.Link.{IsProgram}
 use Rattle.program_link.specs.Marks.{sweep}
-use Rattle.program_link.specs.Taken.{kept_groups}
+use Rattle.program_link.specs.Taken.{with_core_groups, kept_groups}
 use Rattle.program_laws.specs.View.{item_view}
 use Rattle.program_link.proofs.Linked.{items_count, places_inside, start_inside, members_inside, none_empty, marks_count, linked_some, linked_none}
 use Rattle.program_link.proofs.link.link_from.Goals as goal
@@ -58,7 +58,7 @@ returns-in-None-clause-none c none =
     let ordered = subst (λ os. IsOrder (plain c.args.uses.now) [] (plain os)) (sym c.deref-2.ensures.value) c.in_ok-order.ensures in
     let is = c.deref-3.ensures.value ∙ c.in_ok-marks.ensures ∙ ap (λ os. sweep (plain c.args.uses.now) (plain os) (set (replicate (length c.args.uses.now) false) c.args.start true)) (c.deref.ensures.value ∙ sym c.deref-2.ensures.value) in
     linked_none m items uses are order ordered c.args.start c.requires.start marks is
-    (ap (λ home. option_map (λ gs. core_groups ++ gs) (kept_groups home (plain uses) marks items (plain order))) (sym c.requires.main_module)
+    (ap (λ home. option_map (with_core_groups items marks (plain order)) (kept_groups home (plain uses) marks items (plain order))) (sym c.requires.main_module)
     ∙ sym c.in_ok-groups.ensures ∙ ap (option_map (λ gs. map group_view gs.items)) c.in-None.is)
 
 pub returns-clause-some : goal.returns-clause-some
@@ -71,7 +71,7 @@ returns-clause-some c =
     let marks = c.deref-3.result.now in
     let ordered = subst (λ os. IsOrder (plain c.args.uses.now) [] (plain os)) (sym c.deref-2.ensures.value) c.in_ok-order.ensures in
     let is = c.deref-3.ensures.value ∙ c.in_ok-marks.ensures ∙ ap (λ os. sweep (plain c.args.uses.now) (plain os) (set (replicate (length c.args.uses.now) false) c.args.start true)) (c.deref.ensures.value ∙ sym c.deref-2.ensures.value) in
-    let program = linked_some m items uses are order ordered c.args.start c.requires.start marks is (map group_view c.in-Some.groups.items)
-    (ap (λ home. option_map (λ gs. core_groups ++ gs) (kept_groups home (plain uses) marks items (plain order))) (sym c.requires.main_module)
+    let program = linked_some m items uses are order ordered c.args.start c.requires.start marks is (flags_view c.args.flags) c.requires.flags (map group_view c.in-Some.groups.items)
+    (ap (λ home. option_map (with_core_groups items marks (plain order)) (kept_groups home (plain uses) marks items (plain order))) (sym c.requires.main_module)
     ∙ sym c.in_ok-groups.ensures ∙ ap (option_map (λ gs. map group_view gs.items)) c.in-Some.is) in
     subst (IsProgram m items) (sym c.in_ok-project-in-Some.ensures) program

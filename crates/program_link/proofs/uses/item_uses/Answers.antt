@@ -5,7 +5,7 @@ use Rattle.program_laws.specs.View.{item_view}
 use Rattle.program_link.specs.Uses.{place_in, places_by}
 use Rattle.program_link.proofs.Found.{places_by_of}
 use Rattle.program_link.proofs.uses.item_uses.Goals as goal
-use Rattle.program_link.proofs.uses.item_uses.Goals.{in-Port, in-Value+in_ok-push_uses-in-Value, in-Main+in_ok-push_uses-in-Main}
+use Rattle.program_link.proofs.uses.item_uses.Goals.{in-Port, in-Value+in_ok-push_uses-in-Value}
 
 pub returns : goal.returns
 returns c names h =
@@ -16,7 +16,4 @@ returns c names h =
       | in-Value+in_ok-push_uses-in-Value w ↦
           ap (λ v. v.items) w.uses-is ∙ w.in_ok-push_uses-in-Value.ensures ∙ ap (λ us. us ++ places_by find (names_used m (expr_view w.in-Value.value.body))) c.new-uses.ensures.items
           ∙ places_by_of find names h (names_used m (expr_view w.in-Value.value.body)) ∙ ap (λ i. item_uses m names (item_view i)) (sym w.in-Value.is)
-      | in-Main+in_ok-push_uses-in-Main w ↦
-          ap (λ v. v.items) w.uses-is ∙ w.in_ok-push_uses-in-Main.ensures ∙ ap (λ us. us ++ places_by find (names_used m (expr_view w.in-Main.body))) c.new-uses.ensures.items
-          ∙ places_by_of find names h (names_used m (expr_view w.in-Main.body)) ∙ ap (λ i. item_uses m names (item_view i)) (sym w.in-Main.is)
     ]

@@ -1,5 +1,6 @@
 use Rattle.std.proofs.Common.{sym, ap, arith, ◌∙◌, map, []}
 use Rattle.std.proofs.lemmas.List.{get_or-map, length-map}
+use Rattle.elm_canon.specs.Tree.{IntPayload}
 use Rattle.program_laws.specs.View.{item_view}
 use Rattle.program_laws.specs.Link.{item_name}
 use Rattle.program_laws.specs.Items.{PortItem}
@@ -13,6 +14,6 @@ loop-i-preserved c =
     one_more (map item_name (map item_view items)) c.loop-i.i c.in_ok-name_of.field-0 c.loop-i.places c.add_place.new.places
     (omega (arith, there, length-map items item_view, length-map (map item_view items) item_name))
     (c.in_ok-name_of.ensures ∙ ap (λ i. item_name (item_view i)) c.index-items-i.is
-    ∙ ap item_name (sym (get_or-map item_view items c.loop-i.i c.index-items-i.result (PortItem []) there))
-    ∙ sym (get_or-map item_name (map item_view items) c.loop-i.i (PortItem []) [] (omega (arith, there, length-map items item_view))))
+    ∙ ap item_name (sym (get_or-map item_view items c.loop-i.i c.index-items-i.result (PortItem [] IntPayload) there))
+    ∙ sym (get_or-map item_name (map item_view items) c.loop-i.i (PortItem [] IntPayload) [] (omega (arith, there, length-map items item_view))))
     c.loop-i.invariant c.in_ok-add_place.ensures

@@ -2,6 +2,7 @@ use Rattle.std.proofs.Common.{sym, ap, arith, ◌∙◌, map, [], ◌++◌, ◌�
 use Rattle.std.proofs.lemmas.List.{get_or-map, length-map}
 use Rattle.std.proofs.lemmas.List.{take_more, map-append}
 use Rattle.decl_groups.specs.Groups.{plain}
+use Rattle.elm_canon.specs.Tree.{IntPayload}
 use Rattle.program_laws.specs.View.{item_view}
 use Rattle.program_laws.specs.Items.{PortItem}
 use Rattle.program_laws.specs.Link.{item_name, item_uses}
@@ -21,6 +22,6 @@ loop-item-preserved c =
     ∙ ap (λ u. take k (map use' plain_items) ++ u ∷ [])
     (c.in_ok-item_uses.ensures names c.requires
     ∙ ap (λ i. use' (item_view i)) c.item-item.is
-    ∙ ap use' (sym (get_or-map item_view items k c.item-item.result (PortItem []) there))
-    ∙ sym (get_or-map use' plain_items k (PortItem []) [] (omega (arith, there, length-map items item_view))))
+    ∙ ap use' (sym (get_or-map item_view items k c.item-item.result (PortItem [] IntPayload) there))
+    ∙ sym (get_or-map use' plain_items k (PortItem [] IntPayload) [] (omega (arith, there, length-map items item_view))))
     ∙ sym (take_more (map use' plain_items) k [] (omega (arith, there, length-map items item_view, length-map plain_items use')))
