@@ -1,6 +1,3 @@
-pub mod SameTypes
-pub mod Maps
-pub mod Typing
-pub mod Functions
-pub mod Main
-pub mod Modules
+pub mod Context
+pub mod Each
+pub mod Solved

@@ -1,38 +1,48 @@
--- The names that a map has, and those of the items of a module.
-use Rattle.std.specs.Prelude.{ℕ, List, [], ◌∷◌, Bool, true, ◌&&◌, Option, Some, option_map, map}
-use Rattle.std.specs.BTreeMap.{BTreeMap, get_by}
-use Rattle.std.specs.Cmp.Lexicographic.{slice_cmp}
-use Rattle.std.specs.Map.{update}
-use Rattle.std.specs.Ordering.{nat_cmp}
+-- The types of the names of the module Main, and of the core values. (elm/core 1.0.5: Platform, Platform.Cmd, Platform.Sub.)
+use Rattle.std.specs.Prelude.{◌≡◌, ℕ, List, [], ◌∷◌, ◌&&◌, Option, Some, None, if◌then◌else◌, codes}
 use Rattle.std.specs.Str.{bytes_eq}
-use denote.Ref.{Bor}
-use Rattle.elm_canon.specs.View.{expr_view}
+use Rattle.elm_canon.specs.Tree.{IntPayload, UnitPayload}
 use Rattle.elm_type.specs.Types.{ElmType}
-use Rattle.elm_type.specs.View.{to_int, type_view}
-use Rattle.elm_type.specs.declared.types.IntType.{IntType}
-use Rattle.program_laws.specs.declared.items.Item as item
-use Rattle.type_check.specs.Reading.{Types, no_name, has_type, sends_int}
+use Rattle.elm_type.specs.Typing.{port_type, no_command_type, no_subscription_type, worker_type}
+use Rattle.elm_type.specs.View.{type_view}
+use Rattle.program_laws.specs.Items.{Item, PortItem, ValueItem}
+use Rattle.program_laws.specs.Link.{item_name}
+use Rattle.type_solver.specs.Looks.{Known}
+use Rattle.type_check.specs.declared.known.Known as known
+use Rattle.type_check.specs.declared.known.Core as core
 
--- the type with these parameters
-abbrev pub shown : Option (Bor (List IntType)) → Option ElmType
-shown = option_map (λ r. to_int (map type_view r.now))
+abbrev pub item_type : Item → ElmType
+item_type (PortItem x p) = port_type p
+item_type (ValueItem x t c) = t
 
--- the names of a map
-abbrev pub known : BTreeMap (Bor (List ℕ)) (Bor (List IntType)) → Types
-known m x = shown (get_by (λ k. slice_cmp nat_cmp x k.now) m)
+-- a name of a module has the type, and others those that they had
+abbrev pub with_type : List ℕ → List ℕ → ElmType → Known → Known
+with_type n y t known m x = if bytes_eq m n && bytes_eq x y then Some t else known m x
 
--- the first value of that name
-abbrev pub types_in : List item.Item → Types
-types_in [] = no_name
-types_in (item.Item.Value v ∷ items) = update bytes_eq (types_in items) v.name (Some (type_view v.annotation))
-types_in (_ ∷ items) = types_in items
+abbrev pub no_types : Known
+no_types m x = None
 
--- an item has its type, where the values have these
-abbrev pub item_has : Types → item.Item → Bool
-item_has values (item.Item.Port x) = true
-item_has values (item.Item.Value v) = has_type values no_name (expr_view v.body) (type_view v.annotation)
-item_has values (item.Item.Main e) = sends_int values (expr_view e)
+abbrev pub core_types : Known
+core_types =
+    with_type (codes "Platform.Cmd") (codes "none") no_command_type
+    (with_type (codes "Platform.Sub") (codes "none") no_subscription_type (with_type (codes "Platform") (codes "worker") worker_type no_types))
 
-abbrev pub all_have : Types → List item.Item → Bool
-all_have values [] = true
-all_have values (item ∷ items) = item_has values item && all_have values items
+-- the first item of a name gives its type
+abbrev pub types_of : List Item → Known
+types_of [] = core_types
+types_of (item ∷ items) = with_type (codes "Main") (item_name item) (item_type item) (types_of items)
+
+-- a name of a module with its type
+pub record IsKnown (k : known.Known) (m x : List ℕ) (t : ElmType) : Type 0 where
+  pub home : k.home ≡ m
+  pub name : k.name ≡ x
+  pub is : type_view k.known_type ≡ t
+
+-- the core values, the name of the module, and the types of ports
+pub record IsCore (c : core.Core) : Type 0 where
+  pub command : IsKnown c.command (codes "Platform.Cmd") (codes "none") no_command_type
+  pub subscription : IsKnown c.subscription (codes "Platform.Sub") (codes "none") no_subscription_type
+  pub worker : IsKnown c.worker (codes "Platform") (codes "worker") worker_type
+  pub main : c.main ≡ codes "Main"
+  pub int_port : type_view c.int_port ≡ port_type IntPayload
+  pub unit_port : type_view c.unit_port ≡ port_type UnitPayload

@@ -2,6 +2,6 @@
 #![tactic(auto)]
 
 pub mod check;
-mod names;
-mod same;
+mod known;
+pub mod laws;
 mod types;

@@ -1,103 +1,130 @@
-//! The types of expressions.
+//! The types of the core modules.
 
-ghost use Rattle.std.specs.Prelude.{◌≡◌, map, option_and_then};
-ghost use Rattle.elm_canon.specs.View.{expr_view, exprs_of, ref_view};
-ghost use Rattle.elm_type.specs.View.{to_int, type_view};
-ghost use Rattle.type_check.specs.Names.{known, shown};
-ghost use Rattle.type_check.specs.Reading.{either, type_in, taken, result_for, sum_of};
+ghost use Rattle.std.specs.Prelude.{◌≡◌, ℕ, IfOk, map};
+ghost use Rattle.elm_type.specs.Types as plain;
+ghost use Rattle.elm_type.specs.View.{type_view, types_of};
 
-use crate::names::{Names, find};
-use crate::same::{is_int, same_all};
-use elm_canon::tree::{Expr, Ref};
-use elm_type::types::IntType;
+use elm_base::units::Units;
+use elm_type::types::{FieldType, Type};
+use std::alloc::{AllocError, Global};
 
-/// The parameters of an expression's type.
-#[cycle(types)]
-pub fn type_of<'a>(values: &Names<'a>, locals: &Names<'a>, expr: &'a Expr) -> Option<&'a [IntType]>
-    ensures { shown result ≡ type_in (either (known values.now) (known locals.now)) (expr_view expr.now) }
+/// A type of a core module, with these arguments.
+pub(crate) fn named(
+    alloc: Global,
+    home: &str,
+    name: &str,
+    arguments: Vec<Type>,
+) -> Result<Type, AllocError>
+    ensures { IfOk result (λ t. type_view t ≡ plain.NamedType home.now name.now (types_of (map type_view arguments.items))) }
 {
-    match expr {
-        Expr::Int(_) => Some(&[]),
-        Expr::Var(name) => type_of_name(values, locals, name),
-        Expr::Apply(function, arguments) => take_all(
-            values,
-            locals,
-            arguments,
-            type_of(values, locals, function)?,
-        ),
-        Expr::Binary(_, left, right) => sum_of(
-            type_of(values, locals, left)?,
-            type_of(values, locals, right),
-        ),
-        Expr::Lambda(_, _)
-        | Expr::Unit
-        | Expr::Pair(_, _)
-        | Expr::Triple(_, _, _)
-        | Expr::Record(_) => None,
-    }
+    Ok(Type::Named {
+        module: ascii(alloc, home)?,
+        name: ascii(alloc, name)?,
+        arguments,
+    })
 }
 
-// The type of what a function of these parameters gives for the arguments in turn.
-#[cycle(types)]
-fn take_all<'a>(
-    values: &Names<'a>,
-    locals: &Names<'a>,
-    arguments: &'a Vec<Expr>,
-    parameters: &'a [IntType],
-) -> Option<&'a [IntType]>
-    ensures { shown result ≡ taken (either (known values.now) (known locals.now)) (exprs_of (map expr_view arguments.now.items)) (to_int (map type_view parameters.now)) }
+/// A text of ASCII, of which each byte is a unit.
+pub(crate) fn ascii(alloc: Global, text: &str) -> Result<Units, AllocError>
+    ensures { IfOk result (λ u. u ≡ text.now) }
 {
-    let mut left = parameters;
-    for argument in arguments {
-        left = take_one(values, locals, argument, left)?;
-    }
-    Some(left)
+    let units = text.bytes().map(u16::from).collect(alloc)?;
+    Ok(Units::from_vec(units))
 }
 
-// The type of what a function of these parameters gives for the argument.
-#[cycle(types)]
-fn take_one<'a>(
-    values: &Names<'a>,
-    locals: &Names<'a>,
-    argument: &'a Expr,
-    parameters: &'a [IntType],
-) -> Option<&'a [IntType]>
-    ensures { shown result ≡ option_and_then (λ given. result_for given (to_int (map type_view parameters.now))) (type_in (either (known values.now) (known locals.now)) (expr_view argument.now)) }
+pub(crate) fn function(alloc: Global, from: Type, to: Type) -> Result<Type, AllocError>
+    ensures { IfOk result (λ t. type_view t ≡ plain.FunctionType (type_view from) (type_view to)) }
 {
-    let given = type_of(values, locals, argument)?;
-    behind(given, parameters)
+    Ok(Type::Function(Box::new(alloc, from)?, Box::new(alloc, to)?))
 }
 
-// The type of what a function of these parameters gives for an argument of that type.
-fn behind<'a>(given: &'a [IntType], parameters: &'a [IntType]) -> Option<&'a [IntType]>
-    ensures { shown result ≡ result_for (to_int (map type_view given.now)) (to_int (map type_view parameters.now)) }
+/// `Int`
+pub(crate) fn int(alloc: Global) -> Result<Type, AllocError>
+    ensures { IfOk result (λ t. type_view t ≡ plain.int_type) }
 {
-    let (first, rest) = parameters.split_first()?;
-    if same_all(&first.parameters, given) {
-        Some(rest)
-    } else {
-        None
-    }
+    named(alloc, "Basics", "Int", Vec::new(alloc))
 }
 
-// The type of a sum of an operand of the type `left` and one of the type that was found.
-fn sum_of<'a>(left: &'a [IntType], right: Option<&'a [IntType]>) -> Option<&'a [IntType]>
-    ensures { shown result ≡ option_and_then (sum_of (to_int (map type_view left.now))) (shown right.entry) }
+/// `Cmd msg`, of a variable.
+pub(crate) fn command(alloc: Global, msg: u32) -> Result<Type, AllocError>
+    ensures { IfOk result (λ t. type_view t ≡ plain.command_type (plain.Variable msg)) }
 {
-    let right = right?;
-    if is_int(left) && is_int(right) {
-        Some(left)
-    } else {
-        None
-    }
+    named(
+        alloc,
+        "Platform.Cmd",
+        "Cmd",
+        vec![in alloc; Type::Variable(msg)]?,
+    )
 }
 
-// The type of a name.
-fn type_of_name<'a>(values: &Names<'a>, locals: &Names<'a>, name: &'a Ref) -> Option<&'a [IntType]>
-    ensures { shown result ≡ either (known values.now) (known locals.now) (ref_view name.now) }
+/// `Sub msg`, of a variable.
+pub(crate) fn subscription(alloc: Global, msg: u32) -> Result<Type, AllocError>
+    ensures { IfOk result (λ t. type_view t ≡ plain.subscription_type (plain.Variable msg)) }
 {
-    match name {
-        Ref::Local(name) => find(locals, name),
-        Ref::Top { module: _, name } => find(values, name),
-    }
+    named(
+        alloc,
+        "Platform.Sub",
+        "Sub",
+        vec![in alloc; Type::Variable(msg)]?,
+    )
+}
+
+/// `( model, Cmd msg )`, of variables.
+fn stage(alloc: Global, model: u32, msg: u32) -> Result<Type, AllocError>
+    ensures { IfOk result (λ t. type_view t ≡ plain.PairType (plain.Variable model) (plain.command_type (plain.Variable msg))) }
+{
+    let model = Box::new(alloc, Type::Variable(model))?;
+    Ok(Type::Pair(
+        model,
+        Box::new(alloc, command(alloc, msg)?)?,
+    ))
+}
+
+/// The type of `Platform.worker`: its variables are those of the flags, the model and the messages.
+pub(crate) fn worker(alloc: Global) -> Result<Type, AllocError>
+    ensures { IfOk result (λ t. type_view t ≡ plain.FunctionType (plain.worker_record (plain.Variable 0) (plain.Variable 1) (plain.Variable 2)) (plain.program_type (plain.Variable 0) (plain.Variable 1) (plain.Variable 2))) }
+{
+    let mut fields = Vec::with_capacity(alloc, 3)?;
+    fields.push(field(alloc, "init", init(alloc)?)?)?;
+    fields.push(field(alloc, "subscriptions", subscriptions(alloc)?)?)?;
+    fields.push(field(alloc, "update", update(alloc)?)?)?;
+    function(alloc, Type::Record(fields), program(alloc)?)
+}
+
+/// `flags -> ( model, Cmd msg )`
+fn init(alloc: Global) -> Result<Type, AllocError>
+    ensures { IfOk result (λ t. type_view t ≡ plain.FunctionType (plain.Variable 0) (plain.PairType (plain.Variable 1) (plain.command_type (plain.Variable 2)))) }
+{
+    function(alloc, Type::Variable(0), stage(alloc, 1, 2)?)
+}
+
+/// `model -> Sub msg`
+fn subscriptions(alloc: Global) -> Result<Type, AllocError>
+    ensures { IfOk result (λ t. type_view t ≡ plain.FunctionType (plain.Variable 1) (plain.subscription_type (plain.Variable 2))) }
+{
+    function(alloc, Type::Variable(1), subscription(alloc, 2)?)
+}
+
+/// `msg -> model -> ( model, Cmd msg )`
+fn update(alloc: Global) -> Result<Type, AllocError>
+    ensures { IfOk result (λ t. type_view t ≡ plain.FunctionType (plain.Variable 2) (plain.FunctionType (plain.Variable 1) (plain.PairType (plain.Variable 1) (plain.command_type (plain.Variable 2))))) }
+{
+    let behind = function(alloc, Type::Variable(1), stage(alloc, 1, 2)?)?;
+    function(alloc, Type::Variable(2), behind)
+}
+
+/// `Program flags model msg`
+fn program(alloc: Global) -> Result<Type, AllocError>
+    ensures { IfOk result (λ t. type_view t ≡ plain.program_type (plain.Variable 0) (plain.Variable 1) (plain.Variable 2)) }
+{
+    let arguments = vec![in alloc; Type::Variable(0), Type::Variable(1), Type::Variable(2)]?;
+    named(alloc, "Platform", "Program", arguments)
+}
+
+fn field(alloc: Global, name: &str, field_type: Type) -> Result<FieldType, AllocError>
+    ensures named { IfOk result (λ f. f.name ≡ name.now) }
+    ensures typed { IfOk result (λ f. f.field_type ≡ field_type) }
+{
+    let name = ascii(alloc, name)?;
+    Ok(FieldType { name, field_type })
 }

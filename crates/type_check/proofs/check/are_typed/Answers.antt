@@ -1,13 +1,15 @@
-use Rattle.std.proofs.Common.{◌≡◌}
-use Rattle.std.proofs.lemmas.Result.{IfOk-weaker}
-use Rattle.type_check.specs.Names.{known, all_have}
-use Rattle.type_check.proofs.Modules.{typed_yes, typed_no}
+use Rattle.std.proofs.Common.{map}
+use Rattle.std.specs.Prelude.{codes}
+use Rattle.program_laws.specs.Checked.{module_context}
+use Rattle.program_laws.specs.View.{item_view}
+use Rattle.type_solver.specs.Maps.{known_of}
+use Rattle.type_check.proofs.Context.{module_agrees}
 use Rattle.type_check.proofs.check.are_typed.Goals as goal
 
 pub returns-clause-yes : goal.returns-clause-yes
 returns-clause-yes c =
-    IfOk-weaker c.have_types.result (λ b. b ≡ all_have (known c.in_ok-values.values) c.args.items.now) _ (λ b e. typed_yes c.args.items.now c.requires.plain c.requires.distinct b (known c.in_ok-values.values) c.in_ok-values.ensures e) c.have_types.ensures
+    c.have_types.ensures.yes (module_context (codes "Main") (map item_view c.args.items.now)) (module_agrees (map item_view c.args.items.now) (known_of c.in_ok-names.names) c.in_ok-names.ensures)
 
 pub returns-clause-refused : goal.returns-clause-refused
 returns-clause-refused c =
-    IfOk-weaker c.have_types.result (λ b. b ≡ all_have (known c.in_ok-values.values) c.args.items.now) _ (λ b e. typed_no c.args.items.now c.requires.plain c.requires.distinct b (known c.in_ok-values.values) c.in_ok-values.ensures e) c.have_types.ensures
+    c.have_types.ensures.refused (module_context (codes "Main") (map item_view c.args.items.now)) (module_agrees (map item_view c.args.items.now) (known_of c.in_ok-names.names) c.in_ok-names.ensures)

@@ -1,6 +1,10 @@
-use Rattle.std.proofs.Common.{◌≡◌, drop}
-use Rattle.type_check.specs.Names.{known, all_have}
+use Rattle.std.proofs.Common.{take, map}
+use Rattle.elm_type.specs.Typing.{Context}
+use Rattle.program_laws.specs.Checked.{HaveTheirTypes}
+use Rattle.program_laws.specs.View.{item_view}
+use Rattle.type_solver.specs.Looks.{Agrees}
+use Rattle.type_solver.specs.Maps.{known_of}
 use Rattle.type_check.proofs.check.have_types.Given as goal
 
 abbrev pub invariant-loop-item : goal.invariant-loop-item
-invariant-loop-item l = all_have (known l.values) (drop l.item-index l.items) ≡ all_have (known l.values) l.items
+invariant-loop-item l = (context : Context) → Agrees (known_of l.names) context → HaveTheirTypes context (map item_view (take l.item-index l.items))
