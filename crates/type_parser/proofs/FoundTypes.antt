@@ -16,9 +16,9 @@ use Rattle.token_reader.proofs.Taken.{both, split}
 use Rattle.token_reader.proofs.Levels.{other_kind, taken_length}
 use Rattle.token_reader.proofs.Many.{AreRead, many_complete, few_read}
 use Rattle.token_reader.proofs.Rows.{row_none, row_complete}
-use Rattle.token_reader.proofs.ReadTexts.{text_read}
+use Rattle.token_reader.proofs.ReadTexts.{text_read, other_text}
 use Rattle.type_parser.specs.Reading.{closed_by, grouped, parts_with, parens_with, typed, field_with, fields_with, record_of, record_with, read_type_name, alone, argument_with, next_argument, applied, operand_from, operand_with, arrows_with, type_with, whole_with, read_argument, read_operand, read_type, read_parens, read_record, read_field}
-use Rattle.type_parser.proofs.NextToken.{NoArgument, IsStopped, paren_stops, brace_stops, comma_stops, arrow_stops, next_is, type_begins, type_no_close, other_text}
+use Rattle.type_parser.proofs.NextToken.{NoArgument, IsStopped, paren_stops, brace_stops, comma_stops, arrow_stops, next_is, type_begins, type_no_close}
 use Rattle.type_parser.proofs.ReadTypes.{field_words, argument_shrinks, operand_shrinks, field_shrinks}
 
 abbrev pub ArgumentFound : ℕ → Reader TypeTree → Type 0
@@ -165,8 +165,8 @@ arguments_shaped : (x : List ℕ) (args : TypeTrees) → type_shaped Operand (Ty
 arguments_shaped x NoType h = refl
 arguments_shaped x (MoreTypes a args) h = h
 
-no_name : (t : TypeTree) (j : Kind) (text : List ℕ) (ws : Words) (ts us : List Token) → same_kind j kind.UpperName ≡ false → take_words (one j text ++ ws) ts ≡ Some us → read_type_name ts ≡ None
-no_name t j text ws ts us d e = split (one j text) ws ts us e (λ vs p q. other_text j kind.UpperName text ts vs d p)
+no_name : (j : Kind) (text : List ℕ) (ws : Words) (ts us : List Token) → same_kind j kind.UpperName ≡ false → take_words (one j text ++ ws) ts ≡ Some us → read_type_name ts ≡ None
+no_name j text ws ts us d e = split (one j text) ws ts us e (λ vs p q. other_text j kind.UpperName text ts vs d p)
 
 module _ (room : ℕ) (argument : Reader TypeTree) (found : ArgumentFound room argument) (shrinks : (ts us vs : List Token) (t : TypeTree) → next_argument ts ≡ Some us → argument us ≡ Some (t, vs) → length vs < length ts) where
   arguments_found : (args : TypeTrees) (ts rest : List Token) → types_shaped args ≡ true → types_within args room ≡ true → take_words (arguments_words args) ts ≡ Some rest → AreRead next_argument argument (trees_of args) ts rest
@@ -178,7 +178,7 @@ module _ (room : ℕ) (argument : Reader TypeTree) (found : ArgumentFound room a
       (λ us p q. (ts, us, next_is ts (type_begins t ts us p), found t ts us i.0 j.0 p, arguments_found args us rest i.1 j.1 q))
 
   operand_other : (t : TypeTree) (j : Kind) (text : List ℕ) (ws : Words) (ts rest : List Token) → same_kind j kind.UpperName ≡ false → take_words (one j text ++ ws) ts ≡ Some rest → argument ts ≡ Some (t, rest) → operand_with argument ts ≡ Some (t, rest)
-  operand_other t j text ws ts rest d e f = ap (operand_from argument ts) (no_name t j text ws ts rest d e) ∙ f
+  operand_other t j text ws ts rest d e f = ap (operand_from argument ts) (no_name j text ws ts rest d e) ∙ f
 
   operand_found : OperandFound room (operand_with argument)
   unfolding same_kind

@@ -6,11 +6,10 @@ use Rattle.elm_lexer.specs.declared.token.Kind.TheVariants as kind
 use Rattle.elm_lexer.specs.Tokens.{Token}
 use Rattle.elm_tree.specs.Tree.{TypeTree, TypeVariable, TypeName, UnitType, PairType, TripleType, RecordType, Function, TypeParens}
 use Rattle.elm_tree.specs.Words.{TextOf, Words, one, close_paren, close_brace, comma, arrow, type_words}
-use Rattle.token_reader.specs.Reading.{same_kind, take_words, read_text}
+use Rattle.token_reader.specs.Reading.{same_kind, take_words}
 use Rattle.token_reader.proofs.SameKind.{no}
 use Rattle.token_reader.proofs.Taken.{both, split, one_taken}
-use Rattle.token_reader.proofs.Levels.{inside, other_kind, other_begins, word_absent}
-use Rattle.token_reader.proofs.ReadTexts.{no_text}
+use Rattle.token_reader.proofs.Levels.{inside, other_kind, word_absent}
 use Rattle.type_parser.specs.Reading.{is_beginning, begins_argument, next_argument, stops_type}
 
 -- no argument follows
@@ -84,8 +83,3 @@ type_no_close t ts us e = go (take_words close_paren ts) refl
     go : (o : Option (List Token)) → take_words close_paren ts ≡ o → take_words close_paren ts ≡ None
     go None p = p
     go (Some vs) p = absurd (no (sym (kind_begins kind.CloseParen (codes ")") false ts vs refl p) ∙ type_begins t ts us e))
-
--- ---- a token of another kind
-
-pub other_text : (j k : Kind) (text : List ℕ) (ts us : List Token) → same_kind j k ≡ false → take_words (one j text) ts ≡ Some us → read_text k ts ≡ None
-other_text j k text ts us d e = no_text k ts (other_begins j k text ts us d e)
