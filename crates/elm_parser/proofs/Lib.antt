@@ -1,9 +1,8 @@
-pub mod Exact
-pub mod Fitting
-pub mod Pieces
-pub mod Steps
+pub mod Readers
+pub mod Lines
+pub mod ReadHeaders
 pub mod Sound
 pub mod Complete
-pub mod Readers
 pub mod Loop
 pub mod Whole
+pub mod Names

@@ -1,23 +1,33 @@
--- The readers of expressions, types and names are exact.
-use Rattle.std.specs.Prelude.{codes}
-use Rattle.elm_lexer.specs.declared.token.Kind.TheVariants as kind
-use Rattle.elm_tree.specs.Words.{TextOf, lower, expr_words, type_words}
-use Rattle.expr_parser.proofs.Taken.{fits_of, words_of_fits}
-use Rattle.expr_parser.proofs.Levels.{word_absent}
-use Rattle.expr_parser.proofs.ReadTypes.{type_sound, type_found}
-use Rattle.expr_parser.proofs.ReadExprs.{name_taken, argument_sound, expr_sound}
-use Rattle.expr_parser.proofs.NextToken.{name_read, stops_argument, stops_plus}
-use Rattle.expr_parser.proofs.FoundExprs.{argument_found, expr_found}
-use Rattle.elm_parser.proofs.Exact.{AreExact}
+-- The readers of whole types and expressions are exact.
+use Rattle.std.proofs.Common.{◌≡◌, List, true, Some}
+use Rattle.elm_lexer.specs.Tokens.{Token}
+use Rattle.elm_tree.specs.Tree.{Expr, TypeTree}
+use Rattle.elm_tree.specs.Words.{expr_words, type_words}
+use Rattle.elm_tree.specs.Limits.{is_within, type_within}
+use Rattle.elm_tree.specs.Shape.{expr_shaped, type_shaped, Whole}
+use Rattle.type_parser.specs.Reading.{stops_type, read_type}
+use Rattle.type_parser.proofs.NextToken.{stops}
+use Rattle.type_parser.proofs.ReadTypes.{IsRead, type_sound}
+use Rattle.type_parser.proofs.FoundTypes.{type_found}
+use Rattle.expr_parser.specs.Reading.{stops_expr, read_expr}
+use Rattle.expr_parser.proofs.NextToken.{stops_of}
+use Rattle.expr_parser.proofs.ReadExprs.{expr_sound}
+use Rattle.expr_parser.proofs.FoundExprs.{expr_found}
 
-pub readers_exact : AreExact
-readers_exact = record {
-  expr_sound = λ room ts e rest h. let r = expr_sound room ts e rest h in (fits_of (expr_words e) ts rest r.taken, r.simple, r.shaped, r.within);
-  expr_complete = λ room ts e rest i s w f n. expr_found room e ts rest i s w (words_of_fits (expr_words e) ts rest f) (stops_argument rest n) (stops_plus rest n);
-  argument_sound = λ room ts e rest h. let r = argument_sound room ts e rest h in (fits_of (expr_words e) ts rest r.taken, r.simple, r.shaped, r.within);
-  argument_complete = λ room ts e rest i s w f. argument_found room e ts rest i s w (words_of_fits (expr_words e) ts rest f);
-  type_sound = λ room ts t rest h. let r = type_sound room ts t rest h in (fits_of (type_words t) ts rest r.taken, r.over_int, r.shaped, r.within);
-  type_complete = λ room ts t rest i s w f n. type_found room t ts rest i s w (words_of_fits (type_words t) ts rest f) (word_absent (TextOf kind.Arrow (codes "->")) rest n);
-  name_sound = λ ts x rest h. fits_of (lower x) ts rest (name_taken x ts rest h);
-  name_complete = λ ts x rest f. name_read x ts rest (words_of_fits (lower x) ts rest f);
-}
+abbrev pub IsType : TypeTree → List Token → List Token → Type 0
+IsType t ts rest = IsRead (type_words t) (type_shaped Whole t) (type_within t 256) ts rest
+
+abbrev pub IsExpr : Expr → List Token → List Token → Type 0
+IsExpr e ts rest = IsRead (expr_words e) (expr_shaped Whole e) (is_within e 256) ts rest
+
+pub type_is : (ts : List Token) (t : TypeTree) (rest : List Token) → read_type 256 ts ≡ Some (t, rest) → IsType t ts rest
+type_is ts t rest h = type_sound 256 ts t rest h
+
+pub type_read : (t : TypeTree) (ts rest : List Token) → IsType t ts rest → stops_type rest ≡ true → read_type 256 ts ≡ Some (t, rest)
+type_read t ts rest h n = type_found 256 t ts rest h.shaped h.within h.taken (stops rest n)
+
+pub expr_is : (ts : List Token) (e : Expr) (rest : List Token) → read_expr 256 ts ≡ Some (e, rest) → IsExpr e ts rest
+expr_is ts e rest h = let r = (expr_sound 256 ts e rest h).read in record { taken = r.taken; shaped = r.shaped; within = r.within }
+
+pub expr_read : (e : Expr) (ts rest : List Token) → IsExpr e ts rest → stops_expr rest ≡ true → read_expr 256 ts ≡ Some (e, rest)
+expr_read e ts rest h n = expr_found 256 e ts rest h.shaped h.within h.taken (stops_of rest n)

@@ -4,13 +4,11 @@ use Rattle.std.specs.List.{list_all}
 use Rattle.elm_lexer.specs.Tokens.{Token}
 use Rattle.elm_tree.specs.Tree.{Declaration}
 use Rattle.elm_tree.specs.Spells.{AreDeclarations}
-use Rattle.elm_tree.specs.Simple.{AreSimple}
 use Rattle.elm_tree.specs.Shape.{declaration_shaped}
 use Rattle.elm_tree.specs.Limits.{declaration_within}
 
--- the tokens of ts before rest spell the declarations, which are simple, shaped and within the limits
+-- the tokens of ts before rest spell the declarations, which are shaped and within the limits
 pub record AreRead (ds : List Declaration) (ts rest : List Token) : Type 0 where
   pub spelled : AreDeclarations ds ts rest
-  pub simple : AreSimple ds
   pub shaped : list_all declaration_shaped ds ≡ true
   pub within : list_all declaration_within ds ≡ true

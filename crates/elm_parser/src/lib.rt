@@ -1,6 +1,7 @@
 //! Reads the tokens of a whole module.
 #![tactic(auto)]
 
+pub mod headers;
 pub mod laws;
 pub mod parser;
 

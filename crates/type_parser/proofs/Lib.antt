@@ -1,0 +1,5 @@
+pub mod ReadTypes
+pub mod NextToken
+pub mod FoundTypes
+mod Views
+mod TypeSteps

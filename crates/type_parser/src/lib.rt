@@ -1,0 +1,7 @@
+//! Types, read from tokens.
+#![tactic(auto)]
+
+pub mod laws;
+pub mod types;
+
+pub use types::type_tree;
