@@ -1,5 +1,6 @@
 -- What holds of each accepted text.
 use Rattle.std.proofs.Common.{◌≡◌, ℕ, ◌≤◌, List, [], true, Option, length, arith}
+use Rattle.std.specs.Prelude.{codes}
 use Rattle.wire_value.specs.Wire.{Wire}
 use Rattle.runs.specs.Trace.{SameRun, IsRuled, IsSafe}
 use Rattle.runs.proofs.Traces.{claimed}
@@ -18,8 +19,14 @@ use Rattle.program_laws.proofs.ScopedGroups.{programs_scoped}
 use Rattle.program_laws.proofs.TypedGroups.{programs_typed}
 use Rattle.item_laws.proofs.Resolved.{module_resolved}
 use Rattle.text_laws.proofs.Programs.{literals_exact, names_spelled}
+use Rattle.type_check.specs.Solvable.{AreSolvable}
+use Rattle.type_check.proofs.Solved.{typed_solvable}
 use Rattle.module_compile.specs.Made.{IsAccepted, Result, Good, NotYet, Made, accepted}
 use Rattle.module_compile.specs.View.{HasExactLiterals}
+
+-- what its values ask of their types can be met
+pub accepted_solvable : (text : List ℕ) (p : Project) (a : IsAccepted text p) → AreSolvable (codes "Main") a.items
+accepted_solvable text p a = typed_solvable (codes "Main") a.items a.typed
 
 -- each name of the program is bound
 pub accepted_scoped : (text : List ℕ) (p : Project) → IsAccepted text p → IsScoped p

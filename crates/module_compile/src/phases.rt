@@ -9,7 +9,7 @@ ghost use Rattle.module_compile.specs.View.{made_view, HasExactLiterals};
 use elm_canon::tree::Project;
 use elm_lexer::{LexError, Token, tokens};
 use elm_parser::parse_module;
-use expr_parser::ParseError;
+use token_reader::ParseError;
 use module_items::module_items;
 use program_link::link::link;
 use std::alloc::{AllocError, Global};

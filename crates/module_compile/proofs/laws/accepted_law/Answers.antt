@@ -1,5 +1,8 @@
-use Rattle.module_compile.proofs.Accepted.{accepted_scoped, accepted_typed, accepted_subset, accepted_ruled, accepted_meaning}
+use Rattle.module_compile.proofs.Accepted.{accepted_solvable, accepted_scoped, accepted_typed, accepted_subset, accepted_ruled, accepted_meaning}
 use Rattle.module_compile.proofs.laws.accepted_law.Goals as goal
+
+pub returns-clause-solvable : goal.returns-clause-solvable
+returns-clause-solvable c = accepted_solvable
 
 pub returns-clause-scoped : goal.returns-clause-scoped
 returns-clause-scoped c = accepted_scoped
