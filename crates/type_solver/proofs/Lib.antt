@@ -1,0 +1,5 @@
+pub mod Looks
+pub mod Steps
+pub mod Maps
+pub mod Oks
+pub mod Places

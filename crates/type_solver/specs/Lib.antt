@@ -1,0 +1,4 @@
+pub mod Fitting
+pub mod Looks
+pub mod Maps
+pub mod Instances
