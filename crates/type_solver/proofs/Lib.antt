@@ -3,3 +3,4 @@ pub mod Steps
 pub mod Maps
 pub mod Oks
 pub mod Places
+pub mod Builts

@@ -2,14 +2,15 @@
 
 ghost use Rattle.std.specs.Prelude.{◌≡◌, ℕ, ◌<◌, ◌≤◌, ◌∷◌, [], List, length, map, codes, IfOk, OnOk};
 ghost use Rattle.std.specs.List.{All};
-ghost use Rattle.elm_type.specs.Types.{ElmType, int_type};
-ghost use Rattle.type_store.specs.Heads.{arity, build};
+ghost use Rattle.elm_type.specs.Types.{ElmType, NamedType, RecordType, int_type};
+ghost use Rattle.type_store.specs.Heads.{arity, build, arguments_of, fields_of};
 ghost use Rattle.type_solver.specs.Fitting.{Answers, Opens, Makes};
 ghost use Rattle.type_solver.specs.Looks.{taking};
 
 use elm_base::units::Units;
+use elm_type::types::FieldType;
 use std::alloc::{AllocError, Global};
-use type_store::head::Head;
+use type_store::head::{FieldNames, Head};
 use type_store::store::Store;
 
 /// The units of an ASCII text.
@@ -115,4 +116,42 @@ pub(crate) fn function_of(
         function = make(store, Head::Function, parts)?;
     }
     Ok(function)
+}
+
+/// A place of a type of a module with these arguments.
+pub(crate) fn make_named(
+    store: &mut Store,
+    home: &Units,
+    name: &Units,
+    parts: Vec<u32>,
+) -> Result<u32, AllocError>
+    requires { All (λ p. p < length store.old) parts.items }
+    ensures count { OnOk result (length store.old ≤ length store.new) }
+    ensures inside { IfOk result (λ place. place < length store.new) }
+    ensures makes { IfOk result (λ place. Makes store.old store.new (λ σ. σ place ≡ NamedType home.now name.now (arguments_of (map σ parts.items)))) }
+{
+    let Ok(count) = u32::try_from(parts.len()) else {
+        return Err(AllocError);
+    };
+    make(store, Head::Named(home.clone()?, name.clone()?, count), parts)
+}
+
+/// A place of a record whose fields have these types.
+pub(crate) fn make_record(
+    alloc: Global,
+    store: &mut Store,
+    fields: &[FieldType],
+    parts: Vec<u32>,
+) -> Result<u32, AllocError>
+    requires whole { length parts.items ≡ length fields.now }
+    requires inside { All (λ p. p < length store.old) parts.items }
+    ensures count { OnOk result (length store.old ≤ length store.new) }
+    ensures inside { IfOk result (λ place. place < length store.new) }
+    ensures makes { IfOk result (λ place. Makes store.old store.new (λ σ. σ place ≡ RecordType (fields_of (map (λ f. f.name) fields.now) (map σ parts.items)))) }
+{
+    let mut names = Vec::with_capacity(alloc, fields.len())?;
+    for field in fields {
+        names.push(field.name.clone()?)?;
+    }
+    make(store, Head::Record(FieldNames::from_vec(names)), parts)
 }

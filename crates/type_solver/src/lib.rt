@@ -4,3 +4,5 @@
 mod build;
 mod locals;
 pub mod names;
+mod types;
+mod variables;
