@@ -4,3 +4,6 @@ pub mod Maps
 pub mod Oks
 pub mod Places
 pub mod Builts
+pub mod Scopes
+pub mod Asked
+pub mod Orders

@@ -37,7 +37,7 @@ names_no j (k ∷ ks) [] l o e = absurd (omega arith)
 names_no j (k ∷ ks) (t ∷ ts) l o e =
     found_none (bytes_eq j k) t (field_type j (in_order ks ts)) (has_name j ks) (sym (inserted j k t (in_order ks ts) (lacks k ks ts o.1 o.0)) ∙ e) (names_no j ks ts (omega arith) o.1)
 
-all_fields : (look : Look) (fs : Fields) (ts : List ElmType) → FieldsHave look fs ts → length ts ≡ length (field_names fs)
+pub all_fields : (look : Look) (fs : Fields) (ts : List ElmType) → FieldsHave look fs ts → length ts ≡ length (field_names fs)
 all_fields look NoField [] h = refl
 all_fields look NoField (t ∷ ts) h = absurd h
 all_fields look (MoreField k e fs) [] h = absurd h

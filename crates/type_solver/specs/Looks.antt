@@ -1,5 +1,5 @@
 -- HasType by what each name has, in place of a list of names, and with lists of types. (Elm guide: types.)
-use Rattle.std.specs.Prelude.{◌≡◌, ℕ, ◌<◌, List, [], ◌∷◌, Bool, true, false, Option, Some, None, if◌then◌else◌, option_map}
+use Rattle.std.specs.Prelude.{◌≡◌, ℕ, ◌<◌, length, map, List, [], ◌∷◌, Bool, true, false, Option, Some, None, if◌then◌else◌, option_map}
 use Rattle.std.specs.Str.{bytes_eq}
 use Rattle.elm_canon.specs.Tree.{Ref, Local, Top, same_ref, Pattern, Named, Anything, Expr, Int, Var, Lambda, Apply, Binary, UnitOf, Pair, Triple, Record, Exprs, NoExpr, MoreExpr, Fields, NoField, MoreField}
 use Rattle.elm_type.specs.Types.{ElmType, FunctionType, UnitType, PairType, TripleType, RecordType, FieldTypes, NoFieldType, Scheme, One, Every, IsInstance, insert_field, int_type}
@@ -102,3 +102,14 @@ pub record InScope (count : ℕ) (scope : Scope) : Type 0 where
 pub record Agrees (known : Known) (context : Context) : Type 0 where
   pub tops : (m x : List ℕ) → scheme_of (Top m x) context ≡ option_map (λ t. Every t) (known m x)
   pub locals : (x : List ℕ) → scheme_of (Local x) context ≡ None
+
+-- each expression has the type of its place
+abbrev pub EachHasAt : Known → Scope → Exprs → List ℕ → (ℕ → ElmType) → Type 0
+EachHasAt known scope es ps σ = HaveEach (look_at known scope σ) es (map σ ps)
+
+abbrev pub FieldsHaveAt : Known → Scope → Fields → List ℕ → (ℕ → ElmType) → Type 0
+FieldsHaveAt known scope fs ps σ = FieldsHave (look_at known scope σ) fs (map σ ps)
+
+-- a record of fields of these names and types, each name once
+abbrev pub IsRecordOf : List (List ℕ) → ElmType → List ElmType → Type 0
+IsRecordOf ks t ts = (length ts ≡ length ks) × AreOnce ks × (t ≡ RecordType (in_order ks ts))

@@ -2,12 +2,15 @@
 
 ghost use Rattle.std.specs.Prelude.{◌≡◌, ℕ, ◌<◌, ◌≤◌, ◌∷◌, [], List, length, map, codes, IfOk, OnOk};
 ghost use Rattle.std.specs.List.{All};
+ghost use Rattle.elm_canon.specs.View.{operator_view};
+ghost use Rattle.elm_type.specs.Typing.{operand_type};
 ghost use Rattle.elm_type.specs.Types.{ElmType, NamedType, RecordType, int_type};
 ghost use Rattle.type_store.specs.Heads.{arity, build, arguments_of, fields_of};
 ghost use Rattle.type_solver.specs.Fitting.{Answers, Opens, Makes};
 ghost use Rattle.type_solver.specs.Looks.{taking};
 
 use elm_base::units::Units;
+use elm_canon::tree::Operator;
 use elm_type::types::FieldType;
 use std::alloc::{AllocError, Global};
 use type_store::head::{FieldNames, Head};
@@ -30,6 +33,16 @@ pub(crate) fn int_head(alloc: Global) -> Result<Head, AllocError>
     ensures parts { IfOk result (λ head. arity head ≡ 0) }
 {
     Ok(Head::Named(ascii(alloc, b"Basics")?, ascii(alloc, b"Int")?, 0))
+}
+
+/// The form of the operands of an operator.
+pub(crate) fn operand_head(alloc: Global, operator: Operator) -> Result<Head, AllocError>
+    ensures form { IfOk result (λ head. build head [] ≡ operand_type (operator_view operator)) }
+    ensures parts { IfOk result (λ head. arity head ≡ 0) }
+{
+    match operator {
+        Operator::Add => int_head(alloc),
+    }
 }
 
 /// A place of which nothing is known.
