@@ -15,6 +15,7 @@ use Rattle.type_solver.specs.Fitting.{Agree, IsClosed, Grows, Reaches, Asks, Ref
 use Rattle.type_solver.specs.Looks.{Look, Known, Scope, look_at, bound, with_pattern, InScope, Has, HasAt, HaveEach, FieldsHave, EachHasAt, FieldsHaveAt, taking, field_names, in_order, AreOnce, IsRecordOf}
 use Rattle.type_solver.proofs.Scopes.{look_same, has_same, has_below, look_bound, scope_later, scope_bound}
 use Rattle.type_solver.proofs.Steps.{agree_more, agree_fewer, agree_same, grows_same, grows_more, then_answers, first_refuses, MovesOn, open_answers, none_opens, same_answers, makes_answers}
+use Rattle.std.proofs.lemmas.List.{drop_all}
 use Rattle.type_solver.proofs.Places.{same_types}
 use Rattle.type_solver.proofs.Looks.{all_fields as all_names}
 
@@ -234,3 +235,11 @@ form_is s new h ps w t e f answer a =
 
 pub int_answers : (known : Known) (scope : Scope) (s new : List Cell) (h : Head) (ps : List ℕ) (w n : ℕ) → ps ≡ [] → build h [] ≡ int_type → (answer : Bool) → Answers s new (λ σ. σ w ≡ build h (map σ ps)) answer → Answers s new (HasAt known scope (Int n) w) answer
 int_answers known scope s new h ps w n e f answer a = form_is s new h ps w int_type e f answer a
+
+pub each_none : (known : Known) (scope : Scope) (es : List exprs.Expr) (ps : List ℕ) (i : ℕ) → length es ≤ i → length ps ≤ i → (σ : ℕ → ElmType) → EachHasAt known scope (exprs_of (map expr_view (drop i es))) (drop i ps) σ
+each_none known scope es ps i l m σ =
+    subst (λ xs. EachHasAt known scope (exprs_of (map expr_view xs)) (drop i ps) σ) (sym (drop_all i es l)) (subst (λ (qs : List ℕ). EachHasAt known scope NoExpr qs σ) (sym (drop_all i ps m)) tt)
+
+pub fields_none : (known : Known) (scope : Scope) (fs : List fields.Field) (ps : List ℕ) (i : ℕ) → length fs ≤ i → length ps ≤ i → (σ : ℕ → ElmType) → FieldsHaveAt known scope (fields_of (map field_view (drop i fs))) (drop i ps) σ
+fields_none known scope fs ps i l m σ =
+    subst (λ xs. FieldsHaveAt known scope (fields_of (map field_view xs)) (drop i ps) σ) (sym (drop_all i fs l)) (subst (λ (qs : List ℕ). FieldsHaveAt known scope NoField qs σ) (sym (drop_all i ps m)) tt)

@@ -7,3 +7,4 @@ pub mod Builts
 pub mod Scopes
 pub mod Asked
 pub mod Orders
+pub mod Solved

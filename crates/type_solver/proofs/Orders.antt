@@ -12,8 +12,8 @@ use Rattle.std.specs.BTreeMap.{BTreeMap, is_at, insert_entry}
 use Rattle.std.proofs.lemmas.List.Elements.{recursion_from_All}
 use Rattle.std.proofs.lemmas.Map.Text.{btree_map_updates_str}
 use Rattle.elm_type.specs.Types.{ElmType, FieldTypes, MoreFieldTypes, RecordType, insert_field}
-use Rattle.elm_canon.specs.Tree.{Expr}
 use Rattle.elm_canon.specs.View as view
+use Rattle.elm_canon.specs.declared.tree.Field as fields
 use Rattle.type_store.specs.Heads.{fields_of}
 use Rattle.std.proofs.lemmas.List.{length-map}
 use Rattle.type_store.specs.Fits.{Cell, Fit}
@@ -21,7 +21,7 @@ use Rattle.type_solver.specs.Fitting.{Agree, Asks, Refuses, Opens}
 use Rattle.type_solver.proofs.Steps.{agree_more, grows_more}
 use Rattle.type_solver.proofs.Places.{same_types}
 use Rattle.type_solver.specs.Looks.{IsRecordOf, in_order, has_name, AreOnce, field_names}
-use Rattle.type_solver.specs.Orders.{Entries, names_of, places_of, IsOrder}
+use Rattle.type_solver.specs.Orders.{Entries, names_of, places_of, written, IsOrder}
 use Rattle.type_solver.proofs.Maps.{either_way}
 
 abbrev Key : Type 0
@@ -63,19 +63,20 @@ some_either false v o c e = e
 none_some : (o : Option ℕ) (b : Bool) → o ≡ None → is_some o ≡ b → b ≡ false
 none_some o b e f = sym f ∙ ap is_some e
 
-some_not : (o : Option ℕ) (v : ℕ) (b : Bool) → o ≡ Some v → is_some o ≡ b → b ≡ true
-some_not o v b e f = sym f ∙ ap is_some e
+is_none : (o : Option ℕ) → is_some o ≡ false → o ≡ None
+is_none None e = refl
+is_none (Some v) e = absurd (let w : true ≡ false = e in cc)
 
 pub no_order : IsOrder [] [] []
 no_order = record { once = tt; names = λ k. refl; order = λ σ. refl; inside = λ n h. h }
 
 -- with a field more
 pub more_order : (m n : BTreeMap Key ℕ) (k : Key) (v : ℕ) (ks : List (List ℕ)) (ps : List ℕ)
-    → tree.get order m k ≡ None → n.entries ≡ insert_entry order m.entries k v → tree.UpdatesBy order (order k) m n (Some v) → IsOrder m.entries ks ps → IsOrder n.entries (k.now ∷ ks) (v ∷ ps)
-more_order m n k v ks ps none e u i = record {
-  once = (none_some (lookup (is_at (order k)) m.entries) (has_name k.now ks) none (i.names k.now), i.once);
+    → is_some (tree.get order m k) ≡ false → n.entries ≡ insert_entry order m.entries k v → tree.UpdatesBy order (order k) m n (Some v) → IsOrder m.entries ks ps → IsOrder n.entries (k.now ∷ ks) (v ∷ ps)
+more_order m n k v ks ps absent e u i = record {
+  once = (none_some (lookup (is_at (order k)) m.entries) (has_name k.now ks) (is_none _ absent) (i.names k.now), i.once);
   names = λ j. ap is_some (btree_map_updates_str k.now m n (Some v) u j) ∙ (some_either (bytes_eq k.now j) v (lookup (is_at (λ x. slice_cmp nat_cmp j x.now)) m.entries) (has_name j ks) (i.names j) ∙ ap (λ b. if b then true else has_name j ks) (either_way k.now j));
-  order = λ σ. ap (λ es. fields_of (names_of es) (map σ (places_of es))) e ∙ (inserted_fields k v m.entries σ none ∙ ap (insert_field k.now (σ v)) (i.order σ));
+  order = λ σ. ap (λ es. fields_of (names_of es) (map σ (places_of es))) e ∙ (inserted_fields k v m.entries σ (is_none _ absent) ∙ ap (insert_field k.now (σ v)) (i.order σ));
   inside = λ c h. (
     let r = recursion_from_All (λ p. p < c) (v ∷ ps) h in
     let old = i.inside c (all_from c ps r.1) in
@@ -83,20 +84,16 @@ more_order m n k v ks ps none e u i = record {
 }
 
 -- a name that stands twice
-pub not_once : (m : BTreeMap Key ℕ) (k : Key) (v : ℕ) (ks : List (List ℕ)) (ps : List ℕ) → tree.get order m k ≡ Some v → IsOrder m.entries ks ps → AreOnce (k.now ∷ ks) → ⊥
-not_once m k v ks ps e i o =
-    let h : has_name k.now ks ≡ true = some_not (lookup (is_at (order k)) m.entries) v (has_name k.now ks) e (i.names k.now) in
+pub not_once : (m : BTreeMap Key ℕ) (k : Key) (ks : List (List ℕ)) (ps : List ℕ) → is_some (tree.get order m k) ≡ true → IsOrder m.entries ks ps → AreOnce (k.now ∷ ks) → ⊥
+not_once m k ks ps e i o =
+    let h : has_name k.now ks ≡ true = sym (i.names k.now) ∙ e in
     let w : true ≡ false = sym h ∙ o.0 in
     cc
 
-pub once_behind : (i : ℕ) (ks : List (List ℕ)) → AreOnce ks → AreOnce (drop i ks)
-once_behind zero ks o = o
+pub once_behind : (i : ℕ) (fs : List fields.Field) → AreOnce (written fs) → AreOnce (written (drop i fs))
+once_behind zero fs o = o
 once_behind (suc i) [] o = tt
-once_behind (suc i) (k ∷ ks) o = once_behind i ks o.1
-
-pub names_are : (xs : List (List ℕ × Expr)) → field_names (view.fields_of xs) ≡ map (λ x. x.0) xs
-names_are [] = refl
-names_are (x ∷ xs) = ap (λ ks. x.0 ∷ ks) (names_are xs)
+once_behind (suc i) (f ∷ fs) o = once_behind i fs o.1
 
 -- a place of a record of these fields
 module _ (s mid : List Cell) (es : Entries) (ks : List (List ℕ)) (ps : List ℕ) (names : List (List ℕ)) (parts : List ℕ) (w n : ℕ) (l : w < length s) (all : length ps ≡ n) (count : length ks ≡ n) (i : IsOrder es ks ps) (is_names : names ≡ names_of es) (is_parts : parts ≡ places_of es) (places : All (λ p. p < length mid) ps) (o : Opens s mid (λ σ. map σ ps) (λ σ ts. length ts ≡ n)) where
@@ -124,3 +121,7 @@ module _ (s mid : List Cell) (es : Entries) (ks : List (List ℕ)) (ps : List �
 
 pub never_once : (s : List Cell) (ks : List (List ℕ)) (w : ℕ) → (AreOnce ks → ⊥) → Refuses s (λ σ. (ts : List ElmType) × IsRecordOf ks (σ w) ts)
 never_once s ks w n = record { never = λ k σ f h. n h.1.1 }
+
+pub written_names : (fs : List fields.Field) → field_names (view.fields_of (map view.field_view fs)) ≡ written fs
+written_names [] = refl
+written_names (f ∷ fs) = ap (λ ks. (view.field_view f).0 ∷ ks) (written_names fs)

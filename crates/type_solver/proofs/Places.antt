@@ -10,7 +10,7 @@ use Rattle.std.proofs.lemmas.Bool.{false_from_ne_true}
 use Rattle.elm_type.specs.Types.{ElmType, UnitType, FunctionType}
 use Rattle.type_store.specs.declared.head.Head.{Head}
 use Rattle.type_store.specs.Heads.{build}
-use Rattle.type_store.specs.Fits.{Cell, Fit, Joined, Differ}
+use Rattle.type_store.specs.Fits.{Cell, Fit, Solvable, Joined, Differ}
 use Rattle.type_solver.specs.Fitting.{Agree, IsClosed, Grows, Reaches, Asks, Refuses, Answers, Opens, IsBelow, Makes}
 use Rattle.type_solver.specs.Looks.{taking}
 use Rattle.type_solver.proofs.Steps.{makes_answers, makes_more, makes_same, agree_more, agree_same, agree_back, agree_fewer, grows_same, grows_more}
@@ -42,6 +42,7 @@ module _ (old new : List Cell) (count : length new ≡ length old + 1) (fits : (
   fresh_grows = record {
     count = omega arith;
     closed = λ k. record { each = λ σ τ a f. (fits τ).1 (k.each σ τ (agree_fewer (length old) (length new) σ τ (omega arith) a) ((fits σ).0 f)) };
+    solvable = λ h. record { types = h.types; fit = (fits h.types).1 h.fit };
     back = λ σ f. (fits σ).0 f;
   }
 
@@ -57,7 +58,7 @@ module _ (old new : List Cell) (count : length new ≡ length old + 1) (fits : (
 
 -- a place of known form
 module _ (old new : List Cell) (head : Head) (parts : List ℕ) (place : ℕ) (count : length new ≡ length old + 1) (is : place ≡ length old) (inside : All (λ p. p < length old) parts)
-    (fits : (σ : ℕ → ElmType) → Fit σ new ↔ (Fit σ old × (σ place ≡ build head (map σ parts)))) where
+    (solvable : Solvable new) (fits : (σ : ℕ → ElmType) → Fit σ new ↔ (Fit σ old × (σ place ≡ build head (map σ parts)))) where
   pub made_makes : Makes old new (λ σ. σ place ≡ build head (map σ parts))
   made_makes = record {
     grows = record {
@@ -68,6 +69,7 @@ module _ (old new : List Cell) (head : Head) (parts : List ℕ) (place : ℕ) (c
           let b = agree_fewer (length old) (length new) σ τ (omega arith) a in
           (fits τ).1 (k.each σ τ b g.0, sym (a.each place (omega arith)) ∙ (g.1 ∙ ap (build head) (same_types (length old) σ τ parts b inside))));
       };
+      solvable = λ h. solvable;
       back = λ σ f. ((fits σ).0 f).0;
     };
     back = λ σ f. ((fits σ).0 f).1;
@@ -79,8 +81,8 @@ module _ (old new : List Cell) (head : Head) (parts : List ℕ) (place : ℕ) (c
   }
 
 -- an equation between two places
-pub add_answers : (old new : List Cell) (v w : ℕ) (answer : Bool) → v < length old → w < length old → length new ≡ length old → (IsTrue answer → Joined old new v w) → (answer ≡ false → Differ old v w) → Answers old new (λ σ. σ v ≡ σ w) answer
-add_answers old new v w true l m n joined differ =
+pub add_answers : (old new : List Cell) (v w : ℕ) (answer : Bool) → v < length old → w < length old → length new ≡ length old → Solvable new → (IsTrue answer → Joined old new v w) → (answer ≡ false → Differ old v w) → Answers old new (λ σ. σ v ≡ σ w) answer
+add_answers old new v w true l m n solvable joined differ =
     let j = joined refl in
     record {
       grows = record {
@@ -91,12 +93,13 @@ add_answers old new v w true l m n joined differ =
             let b = agree_fewer (length old) (length new) σ τ (omega arith) a in
             j.on τ (k.each σ τ b g.0) (sym (b.each v l) ∙ (g.1 ∙ b.each w m)));
         };
+        solvable = λ h. solvable;
         back = λ σ f. (j.back σ f).0;
       };
       back = λ σ f. (j.back σ f).1;
       on = λ k σ f e. record { types = σ; agree = agree_same (length old) σ; fit = j.on σ f e; also = tt };
     }
-add_answers old new v w false l m n joined differ = record { never = λ k σ f e. (differ refl).never σ f e }
+add_answers old new v w false l m n solvable joined differ = record { never = λ k σ f e. (differ refl).never σ f e }
 
 -- a place that is of a known form
 pub form_answers : (old mid new : List Cell) (head : Head) (parts : List ℕ) (wanted place : ℕ) → All (λ p. p < length old) parts → wanted < length old → Makes old mid (λ σ. σ place ≡ build head (map σ parts)) → (answer : Bool) → Answers mid new (λ σ. σ place ≡ σ wanted) answer → Answers old new (λ σ. σ wanted ≡ build head (map σ parts)) answer

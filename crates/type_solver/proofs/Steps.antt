@@ -17,10 +17,10 @@ pub agree_fewer : (m n : ℕ) (σ τ : ℕ → ElmType) → m ≤ n → Agree n 
 agree_fewer m n σ τ l a = record { each = λ v h. a.each v (omega arith) }
 
 pub grows_same : (s : List Cell) → Grows s s
-grows_same s = record { count = omega arith; closed = λ c. c; back = λ σ f. f }
+grows_same s = record { count = omega arith; closed = λ c. c; solvable = λ h. h; back = λ σ f. f }
 
 pub grows_more : (a b c : List Cell) → Grows a b → Grows b c → Grows a c
-grows_more a b c g h = record { count = (let l = g.count in let m = h.count in omega arith); closed = λ k. h.closed (g.closed k); back = λ σ f. g.back σ (h.back σ f) }
+grows_more a b c g h = record { count = (let l = g.count in let m = h.count in omega arith); closed = λ k. h.closed (g.closed k); solvable = λ r. h.solvable (g.solvable r); back = λ σ f. g.back σ (h.back σ f) }
 
 -- what is asked first, and what is asked then
 module _ (old mid new : List Cell) (P Q : (ℕ → ElmType) → Type 0) where

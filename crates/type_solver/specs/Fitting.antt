@@ -3,7 +3,7 @@ use Rattle.std.specs.Prelude.{◌≡◌, ℕ, ◌<◌, ◌≤◌, List, length, 
 use Rattle.std.specs.Bool.{MatchBool}
 use Rattle.std.specs.Option.{MatchOption}
 use Rattle.elm_type.specs.Types.{ElmType}
-use Rattle.type_store.specs.Fits.{Cell, Fit}
+use Rattle.type_store.specs.Fits.{Cell, Fit, Solvable}
 
 -- a type for each place
 abbrev pub Valuation : Type 0
@@ -21,6 +21,7 @@ pub record IsClosed (cells : List Cell) : Type 0 where
 pub record Grows (old new : List Cell) : Type 0 where
   pub count : length old ≤ length new
   pub closed : IsClosed old → IsClosed new
+  pub solvable : Solvable old → Solvable new
   pub back : (σ : ℕ → ElmType) → Fit σ new → Fit σ old
 
 -- Types that fit an earlier store have others that fit the later one and are the same at the earlier places. They are also such types.
