@@ -1,12 +1,13 @@
 use Rattle.std.proofs.Common.{rules, ◌≡◌, ◌∙◌, ℕ, ◌<◌, ◌≤◌, ◌∷◌, [], List, length, map, get_or, drop, drop-cons, add-one, ◌+◌, Option, Vec, Global, Bool, true, false, refl, sym, ap, subst, arith}
 use Rattle.std.specs.List.{All}
 use Rattle.std.proofs.lemmas.List.Elements.{All-weaker, All-drop}
+use Rattle.std.proofs.lemmas.Grind.{common_steps}
 use Rattle.std.proofs.lemmas.Result.{IfOk-weaker}
 use Rattle.elm_canon.specs.Tree as plain
 use Rattle.elm_canon.specs.View.{expr_view, exprs_of, field_view, fields_of, pattern_view, operator_view}
 use Rattle.elm_canon.specs.declared.tree.Expr.{the_lemmas}
 use Rattle.elm_canon.specs.declared.tree.Expr.TheVariants as variants
-use Rattle.elm_type.specs.Types.{ElmType, FunctionType, PairType, TripleType, int_type}
+use Rattle.elm_type.specs.Types.{ElmType, FunctionType, PairType, TripleType, UnitType, int_type}
 use Rattle.elm_type.specs.Typing.{operand_type}
 use Rattle.type_store.specs.Heads.{build}
 use Rattle.type_store.specs.declared.head.Head.TheVariants as head
@@ -30,6 +31,17 @@ ask-returns-in_ok-int_head-in-Int-clause-answers t c =
     let is : plain.Int c.in-Int.field-0 ≡ expr_view c.args.expr.now = sym (ap expr_view c.in-Int.is ∙ view) in
     IfOk-weaker c.ask_form.result _ _
     (λ answer a. subst (λ e. Answers s c.ask_form.new.store (HasAt known scope e w) answer) is (Asked.int_answers known scope s c.ask_form.new.store c.in_ok-int_head-in-Int.field-0 c.new.result.items w c.in-Int.field-0 c.new.ensures.items c.in_ok-int_head-in-Int.ensures.form answer a)) c.ask_form.ensures.answers
+
+pub ask-returns-in-Unit-clause-answers : goal.ask-returns-in-Unit-clause-answers
+ask-returns-in-Unit-clause-answers t c =
+    let known = known_of c.args.names.now in
+    let scope = scope_of c.args.locals.now in
+    let w = c.args.wanted in
+    let s = c.args.store.now in
+    let view : expr_view variants.Unit ≡ plain.UnitOf = search (rules, the_lemmas) in
+    let is : plain.UnitOf ≡ expr_view c.args.expr.now = sym (ap expr_view c.in-Unit.is ∙ view) in
+    IfOk-weaker c.ask_form-in-Unit.result _ _
+    (λ answer a. subst (λ e. Answers s c.ask_form-in-Unit.new.store (HasAt known scope e w) answer) is (Asked.form_is s c.ask_form-in-Unit.new.store head.Empty c.new-in-Unit.result.items w UnitType c.new-in-Unit.ensures.items refl answer a)) c.ask_form-in-Unit.ensures.answers
 
 pub ask_pair-returns-then-not-branch-clause-answers : goal.ask_pair-returns-then-not-branch-clause-answers
 ask_pair-returns-then-not-branch-clause-answers t c =
@@ -437,7 +449,7 @@ ask_call-ask_each-requires t c =
     let is : c.deref-2.result.now ≡ ps = c.deref-2.ensures.value in
     let places : All (λ p. p < length s3) ps = All-weaker (λ p. p < length s1) (λ p. p < length s3) (λ p h. omega arith) ps c.in_ok-places.ensures.inside in
     let counted : c.len.result ≡ n = search rules in
-    (search rules, (ap length is ∙ (c.in_ok-places.ensures.all ∙ counted), subst (All (λ p. p < length s3)) (sym is) places, scope_kept (length s) (length s3) scope (scope_of c.ask.new.locals) (omega arith) c.in_ok-ask.ensures.kept c.requires.scope))
+    (first_of (search rules, omega (arith, c.decreases), search (rules, the_lemmas, c.decreases), grind (arith, common_steps, c.decreases)), (ap length is ∙ (c.in_ok-places.ensures.all ∙ counted), (subst (All (λ p. p < length s3)) (sym is) places, scope_kept (length s) (length s3) scope (scope_of c.ask.new.locals) (omega arith) c.in_ok-ask.ensures.kept c.requires.scope)))
 
 pub ask_function-ask-requires : goal.ask_function-ask-requires
 ask_function-ask-requires t c =
@@ -459,7 +471,7 @@ ask_function-ask-requires t c =
     let at_p : p < length s1 = c.in_ok-from.ensures.inside in
     let at_q : q < length s2 = c.in_ok-to.ensures.inside in
     let below = scope_later (length s) (length s3) scope (omega arith) c.requires.scope in
-    (search rules, (omega arith, subst (InScope (length s3)) (sym c.in_ok-before.ensures.bound) (scope_bound (length s3) x p scope (omega arith) below)))
+    (first_of (search rules, omega (arith, c.decreases), search (rules, the_lemmas, c.decreases), grind (arith, common_steps, c.decreases)), (omega arith, subst (InScope (length s3)) (sym c.in_ok-before.ensures.bound) (scope_bound (length s3) x p scope (omega arith) below)))
 
 pub ask_operation-ask-requires-2 : goal.ask_operation-ask-requires-2
 ask_operation-ask-requires-2 t c =
@@ -475,7 +487,7 @@ ask_operation-ask-requires-2 t c =
     let low : length s ≤ length s1 = c.in_ok-ask_form.ensures.count in
     let high : length s1 ≤ length s2 = c.in_ok-ask.ensures.count in
     let at : w < length s = c.requires.inside in
-    (search rules, (omega arith, scope_kept (length s) (length s2) scope (scope_of c.ask.new.locals) (omega arith) c.in_ok-ask.ensures.kept c.requires.scope))
+    (first_of (search rules, omega (arith, c.decreases), search (rules, the_lemmas, c.decreases), grind (arith, common_steps, c.decreases)), (omega arith, scope_kept (length s) (length s2) scope (scope_of c.ask.new.locals) (omega arith) c.in_ok-ask.ensures.kept c.requires.scope))
 
 pub ask_pair-ask-requires-2 : goal.ask_pair-ask-requires-2
 ask_pair-ask-requires-2 t c =
@@ -496,7 +508,7 @@ ask_pair-ask-requires-2 t c =
     let s4 = c.ask.new.store in
     let more : length s2 ≤ length s3 = c.in_ok-ask_form.ensures.count in
     let last : length s3 ≤ length s4 = c.in_ok-ask.ensures.count in
-    (search rules, (omega arith, scope_kept (length s) (length s4) scope (scope_of c.ask.new.locals) (omega arith) c.in_ok-ask.ensures.kept c.requires.scope))
+    (first_of (search rules, omega (arith, c.decreases), search (rules, the_lemmas, c.decreases), grind (arith, common_steps, c.decreases)), (omega arith, scope_kept (length s) (length s4) scope (scope_of c.ask.new.locals) (omega arith) c.in_ok-ask.ensures.kept c.requires.scope))
 
 pub ask_triple-ask-requires-2 : goal.ask_triple-ask-requires-2
 ask_triple-ask-requires-2 t c =
@@ -522,7 +534,7 @@ ask_triple-ask-requires-2 t c =
     let s5 = c.ask.new.store in
     let more : length s3 ≤ length s4 = c.in_ok-ask_form.ensures.count in
     let then : length s4 ≤ length s5 = c.in_ok-ask.ensures.count in
-    (search rules, (omega arith, scope_kept (length s) (length s5) scope (scope_of c.ask.new.locals) (omega arith) c.in_ok-ask.ensures.kept c.requires.scope))
+    (first_of (search rules, omega (arith, c.decreases), search (rules, the_lemmas, c.decreases), grind (arith, common_steps, c.decreases)), (omega arith, scope_kept (length s) (length s5) scope (scope_of c.ask.new.locals) (omega arith) c.in_ok-ask.ensures.kept c.requires.scope))
 
 pub ask_triple-ask-requires-3 : goal.ask_triple-ask-requires-3
 ask_triple-ask-requires-3 t c =
@@ -550,7 +562,7 @@ ask_triple-ask-requires-3 t c =
     let then : length s4 ≤ length s5 = c.in_ok-ask.ensures.count in
     let s6 = c.ask-2.new.store in
     let last : length s5 ≤ length s6 = c.in_ok-ask-2.ensures.count in
-    (search rules, (omega arith, scope_kept (length s) (length s6) scope (scope_of c.ask-2.new.locals) (omega arith) (c.in_ok-ask-2.ensures.kept ∙ c.in_ok-ask.ensures.kept) c.requires.scope))
+    (first_of (search rules, omega (arith, c.decreases), search (rules, the_lemmas, c.decreases), grind (arith, common_steps, c.decreases)), (omega arith, scope_kept (length s) (length s6) scope (scope_of c.ask-2.new.locals) (omega arith) (c.in_ok-ask-2.ensures.kept ∙ c.in_ok-ask.ensures.kept) c.requires.scope))
 
 pub ask_each-ask-requires : goal.ask_each-ask-requires
 ask_each-ask-requires t c =
@@ -565,7 +577,7 @@ ask_each-ask-requires t c =
     let counted : c.len-i-end.result ≡ length c.args.exprs.now.items = search rules in
     let all : length ps ≡ length c.args.exprs.now.items = c.requires.all in
     let in_s : p < length s = c.requires.inside i 0 (omega arith) in
-    (search rules, (omega arith, scope_kept (length s) (length now) scope (scope_of c.loop-i.locals) low c.loop-i.invariant.kept c.requires.scope))
+    (first_of (search rules, omega (arith, c.decreases), search (rules, the_lemmas, c.decreases), grind (arith, common_steps, c.decreases)), (omega arith, scope_kept (length s) (length now) scope (scope_of c.loop-i.locals) low c.loop-i.invariant.kept c.requires.scope))
 
 pub ask_fields-ask_field-requires : goal.ask_fields-ask_field-requires
 ask_fields-ask_field-requires t c =
@@ -580,7 +592,7 @@ ask_fields-ask_field-requires t c =
     let counted : c.len-i-end.result ≡ length c.args.fields.now.items = search rules in
     let all : length ps ≡ length c.args.fields.now.items = c.requires.all in
     let in_s : p < length s = c.requires.inside i 0 (omega arith) in
-    (search rules, (omega arith, scope_kept (length s) (length now) scope (scope_of c.loop-i.locals) low c.loop-i.invariant.kept c.requires.scope))
+    (first_of (search rules, omega (arith, c.decreases), search (rules, the_lemmas, c.decreases), grind (arith, common_steps, c.decreases)), (omega arith, scope_kept (length s) (length now) scope (scope_of c.loop-i.locals) low c.loop-i.invariant.kept c.requires.scope))
 
 pub ask_each-returns-then-not-branch-clause-answers : goal.ask_each-returns-then-not-branch-clause-answers
 ask_each-returns-then-not-branch-clause-answers t c =
