@@ -1,4 +1,5 @@
 use Rattle.std.proofs.Common.{rules, ◌≡◌, ◌∙◌, sym, ap, subst, length, arith}
+use Rattle.std.proofs.lemmas.Grind.{common_steps}
 use Rattle.std.proofs.lemmas.Result.{IfOk-weaker}
 use Rattle.elm_canon.specs.Tree as plain
 use Rattle.elm_canon.specs.View.{expr_view, pattern_view}
@@ -20,7 +21,7 @@ ask_known-requires t c =
     let scope = scope_of c.args.locals.now in
     let n = length c.place_of_known.new.store in
     let below = scope_later (length c.args.store.now) n scope c.in_ok-place-in-Lambda-Function.ensures.count c.requires in
-    (search (rules, c.decreases), subst (InScope n) (sym c.in_ok-bind-in-Lambda-Function.ensures.bound) (scope_bound n (pattern_view c.in-Lambda-Function.parameter) c.in_ok-place-in-Lambda-Function.place scope c.in_ok-place-in-Lambda-Function.ensures.inside below))
+    (first_of (search rules, omega (arith, c.decreases), search (rules, the_lemmas, c.decreases), grind (arith, common_steps, c.decreases)), subst (InScope n) (sym c.in_ok-bind-in-Lambda-Function.ensures.bound) (scope_bound n (pattern_view c.in-Lambda-Function.parameter) c.in_ok-place-in-Lambda-Function.place scope c.in_ok-place-in-Lambda-Function.ensures.inside below))
 
 pub returns-in_ok-bind-in-Lambda-Function : goal.returns-in_ok-bind-in-Lambda-Function
 returns-in_ok-bind-in-Lambda-Function t c =
