@@ -1,0 +1,10 @@
+pub mod Looks
+pub mod Steps
+pub mod Maps
+pub mod Oks
+pub mod Places
+pub mod Builts
+pub mod Scopes
+pub mod Asked
+pub mod Orders
+pub mod Solved

@@ -1,0 +1,5 @@
+pub mod Fitting
+pub mod Looks
+pub mod Maps
+pub mod Instances
+pub mod Orders
