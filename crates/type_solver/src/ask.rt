@@ -3,7 +3,7 @@
 ghost use Rattle.std.specs.Prelude.{◌≡◌, ◌<◌, ◌≤◌, length, map, IfOk, OnOk};
 ghost use Rattle.std.specs.List.{All};
 ghost use Rattle.elm_canon.specs.Tree as plain;
-ghost use Rattle.elm_canon.specs.View.{expr_view, exprs_of, field_view, fields_of, pattern_view, operator_view};
+ghost use Rattle.elm_canon.specs.View.{expr_view, exprs_of, field_view, fields_of, pattern_view};
 ghost use Rattle.type_solver.specs.Fitting.{Answers};
 ghost use Rattle.type_solver.specs.Looks.{HasAt, EachHasAt, FieldsHaveAt, InScope};
 ghost use Rattle.type_solver.specs.Maps.{known_of, scope_of};
@@ -13,7 +13,7 @@ use crate::locals::Locals;
 use crate::name::ask_name;
 use crate::names::Names;
 use crate::record::record_places;
-use elm_canon::tree::{Expr, Field, Operator, Pattern};
+use elm_canon::tree::{Expr, Field, Pattern};
 use std::alloc::{AllocError, Global};
 use type_store::head::Head;
 use type_store::store::Store;
@@ -41,18 +41,50 @@ pub(crate) fn ask<'a>(
             ask_function(alloc, names, locals, store, parameter, body, wanted)
         }
         Expr::Apply(function, arguments) => {
-            ask_call(alloc, names, locals, store, function, arguments, wanted)
+            let places = fresh_places(alloc, store, arguments.len())?;
+            let called = function_of(alloc, store, &places, wanted)?;
+            if !ask(alloc, names, locals, store, function, called)? {
+                return Ok(false);
+            }
+            ask_each(alloc, names, locals, store, arguments, &places)
         }
-        Expr::Binary(operator, left, right) => ask_operation(
-            alloc, names, locals, store, *operator, left, right, wanted,
-        ),
+        Expr::Binary(operator, left, right) => {
+            let operand = operand_head(alloc, *operator)?;
+            if !ask_form(store, operand, Vec::new(alloc), wanted)? {
+                return Ok(false);
+            }
+            if !ask(alloc, names, locals, store, left, wanted)? {
+                return Ok(false);
+            }
+            ask(alloc, names, locals, store, right, wanted)
+        }
         Expr::Unit => ask_form(store, Head::Empty, Vec::new(alloc), wanted),
         Expr::Pair(first, second) => {
-            ask_pair(alloc, names, locals, store, first, second, wanted)
+            let a = fresh(store)?;
+            let b = fresh(store)?;
+            if !ask_form(store, Head::Pair, vec![in alloc; a, b]?, wanted)? {
+                return Ok(false);
+            }
+            if !ask(alloc, names, locals, store, first, a)? {
+                return Ok(false);
+            }
+            ask(alloc, names, locals, store, second, b)
         }
-        Expr::Triple(first, second, third) => ask_triple(
-            alloc, names, locals, store, first, second, third, wanted,
-        ),
+        Expr::Triple(first, second, third) => {
+            let x = fresh(store)?;
+            let y = fresh(store)?;
+            let z = fresh(store)?;
+            if !ask_form(store, Head::Triple, vec![in alloc; x, y, z]?, wanted)? {
+                return Ok(false);
+            }
+            if !ask(alloc, names, locals, store, first, x)? {
+                return Ok(false);
+            }
+            if !ask(alloc, names, locals, store, second, y)? {
+                return Ok(false);
+            }
+            ask(alloc, names, locals, store, third, z)
+        }
         Expr::Record(fields) => ask_record(alloc, names, locals, store, fields, wanted),
     }
 }
@@ -85,31 +117,6 @@ fn ask_function<'a>(
     Ok(answer)
 }
 
-/// Asks that a call has the type of a place.
-#[cycle(ask)]
-fn ask_call<'a>(
-    alloc: Global,
-    names: &Names<'a>,
-    locals: &mut Locals<'a>,
-    store: &mut Store,
-    function: &'a Expr,
-    arguments: &'a Vec<Expr>,
-    wanted: u32,
-) -> Result<bool, AllocError>
-    requires inside { wanted < length store.old }
-    requires scope { InScope (length store.old) (scope_of locals.old) }
-    ensures count { OnOk result (length store.old ≤ length store.new) }
-    ensures kept { OnOk result (scope_of locals.new ≡ scope_of locals.old) }
-    ensures answers { IfOk result (Answers store.old store.new (HasAt (known_of names.now) (scope_of locals.old) (plain.Apply (expr_view function.now) (exprs_of (map expr_view arguments.now.items))) wanted)) }
-{
-    let places = fresh_places(alloc, store, arguments.len())?;
-    let called = function_of(alloc, store, &places, wanted)?;
-    if !ask(alloc, names, locals, store, function, called)? {
-        return Ok(false);
-    }
-    ask_each(alloc, names, locals, store, arguments, &places)
-}
-
 /// Asks that each expression has the type of its place.
 #[cycle(ask)]
 fn ask_each<'a>(
@@ -133,95 +140,6 @@ fn ask_each<'a>(
         }
     }
     Ok(true)
-}
-
-/// Asks that an operation has the type of a place.
-#[cycle(ask)]
-fn ask_operation<'a>(
-    alloc: Global,
-    names: &Names<'a>,
-    locals: &mut Locals<'a>,
-    store: &mut Store,
-    operator: Operator,
-    left: &'a Expr,
-    right: &'a Expr,
-    wanted: u32,
-) -> Result<bool, AllocError>
-    requires inside { wanted < length store.old }
-    requires scope { InScope (length store.old) (scope_of locals.old) }
-    ensures count { OnOk result (length store.old ≤ length store.new) }
-    ensures kept { OnOk result (scope_of locals.new ≡ scope_of locals.old) }
-    ensures answers { IfOk result (Answers store.old store.new (HasAt (known_of names.now) (scope_of locals.old) (plain.Binary (operator_view operator) (expr_view left.now) (expr_view right.now)) wanted)) }
-{
-    let operand = operand_head(alloc, operator)?;
-    if !ask_form(store, operand, Vec::new(alloc), wanted)? {
-        return Ok(false);
-    }
-    if !ask(alloc, names, locals, store, left, wanted)? {
-        return Ok(false);
-    }
-    ask(alloc, names, locals, store, right, wanted)
-}
-
-/// Asks that a pair has the type of a place.
-#[cycle(ask)]
-fn ask_pair<'a>(
-    alloc: Global,
-    names: &Names<'a>,
-    locals: &mut Locals<'a>,
-    store: &mut Store,
-    first: &'a Expr,
-    second: &'a Expr,
-    wanted: u32,
-) -> Result<bool, AllocError>
-    requires inside { wanted < length store.old }
-    requires scope { InScope (length store.old) (scope_of locals.old) }
-    ensures count { OnOk result (length store.old ≤ length store.new) }
-    ensures kept { OnOk result (scope_of locals.new ≡ scope_of locals.old) }
-    ensures answers { IfOk result (Answers store.old store.new (HasAt (known_of names.now) (scope_of locals.old) (plain.Pair (expr_view first.now) (expr_view second.now)) wanted)) }
-{
-    let a = fresh(store)?;
-    let b = fresh(store)?;
-    if !ask_form(store, Head::Pair, vec![in alloc; a, b]?, wanted)? {
-        return Ok(false);
-    }
-    if !ask(alloc, names, locals, store, first, a)? {
-        return Ok(false);
-    }
-    ask(alloc, names, locals, store, second, b)
-}
-
-/// Asks that a triple has the type of a place.
-#[cycle(ask)]
-fn ask_triple<'a>(
-    alloc: Global,
-    names: &Names<'a>,
-    locals: &mut Locals<'a>,
-    store: &mut Store,
-    first: &'a Expr,
-    second: &'a Expr,
-    third: &'a Expr,
-    wanted: u32,
-) -> Result<bool, AllocError>
-    requires inside { wanted < length store.old }
-    requires scope { InScope (length store.old) (scope_of locals.old) }
-    ensures count { OnOk result (length store.old ≤ length store.new) }
-    ensures kept { OnOk result (scope_of locals.new ≡ scope_of locals.old) }
-    ensures answers { IfOk result (Answers store.old store.new (HasAt (known_of names.now) (scope_of locals.old) (plain.Triple (expr_view first.now) (expr_view second.now) (expr_view third.now)) wanted)) }
-{
-    let a = fresh(store)?;
-    let b = fresh(store)?;
-    let c = fresh(store)?;
-    if !ask_form(store, Head::Triple, vec![in alloc; a, b, c]?, wanted)? {
-        return Ok(false);
-    }
-    if !ask(alloc, names, locals, store, first, a)? {
-        return Ok(false);
-    }
-    if !ask(alloc, names, locals, store, second, b)? {
-        return Ok(false);
-    }
-    ask(alloc, names, locals, store, third, c)
 }
 
 /// Asks that a record has the type of a place.
