@@ -1,8 +1,9 @@
 pub mod Forms
 pub mod Same
-pub mod AreSimple
-pub mod OverInt
-pub mod Behind
-pub mod Steps
+pub mod Meanings
+pub mod Entries
+pub mod Headers
 pub mod Walk
+pub mod Arrows
+pub mod Several
 pub mod Modules

@@ -1,6 +1,6 @@
 -- What a module declares: its ports, and its values with their types and what they mean. (Elm guide: types, JavaScript interop, modules;
 -- syntax reference: declarations; elm/core 1.0.5: Basics, Platform, Platform.Cmd, Platform.Sub.)
-use Rattle.std.specs.Prelude.{◌≡◌, ℕ, suc, List, [], ◌∷◌, Bool, true, false, ◌&&◌, Option, Some, None, is_some, option_and_then, option_map, if◌then◌else◌, nat_eq, codes, map}
+use Rattle.std.specs.Prelude.{◌≡◌, ℕ, suc, List, [], ◌∷◌, Bool, true, false, ◌&&◌, Option, Some, None, is_some, option_and_then, option_map, if◌then◌else◌, nat_eq, codes}
 use Rattle.std.specs.List.{list_all}
 use Rattle.std.specs.Str.{bytes_eq}
 use Rattle.elm_canon.specs.Tree as canon

@@ -1,3 +1,3 @@
 pub mod Items
-pub mod Parameters
 pub mod Steps
+pub mod Entries

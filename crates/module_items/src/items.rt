@@ -1,56 +1,40 @@
 //! The items of a module.
 
-ghost use Rattle.std.specs.Prelude.{◌≡◌, List, true, false, None, IfOk, IfSome, map};
-ghost use Rattle.std.specs.List.{list_any};
+ghost use Rattle.std.specs.Prelude.{◌≡◌, ◌<◌, ◌≤◌, ◌∷◌, List, None, IfOk, IfSome, map, drop, length};
+ghost use Rattle.std.specs.Str.{bytes_eq};
 ghost use Rattle.elm_tree.specs.Tree as plain;
-ghost use Rattle.elm_tree.specs.Simple.{is_main};
-ghost use Rattle.elm_tree.specs.Utf16.{units_of};
-ghost use Rattle.elm_tree.specs.View.{expr_view, declaration_view, declarations_view, module_view};
-ghost use Rattle.elm_tree.specs.declared.tree.Declaration as declaration;
+ghost use Rattle.elm_tree.specs.View.{type_view, expr_view, pattern_view, declaration_view, module_view};
 ghost use Rattle.name_resolution.specs.Knows.{Knows};
 ghost use Rattle.program_laws.specs.Items.{Item as PlainItem};
 ghost use Rattle.program_laws.specs.View.{item_view};
 ghost use Rattle.module_items.specs.Items.{AreItems, IsModule};
-ghost use Rattle.module_items.specs.Steps.{Adds, IsRefused, port_declarations, main_declarations, is_entry};
+ghost use Rattle.module_items.specs.Steps.{IsValue, Adds, IsRefused};
 
+use crate::header::{are_allowed, exposes_declared, is_main};
+use crate::ports::port;
 use crate::types::meaning;
-use elm_base::units::Units;
-use elm_tree::tree;
-use elm_tree::tree::{Declaration, Module};
+use elm_tree::tree::{Declaration, Definition, Module, Type};
 use elm_tree::utf16::units;
-use name_resolution::{Names, declared, definition, is_main, main};
+use name_resolution::{Names, declared, definition};
 use program_laws::items::{Item, Value};
 use std::alloc::{AllocError, Global};
 
-/// The items of a module. None: it has none, as a name is declared twice, nothing is called `main`, or a declaration
-/// comes to nothing.
+/// The items of a module. None: it has none, as it is not `Main`, has ports that its header does not allow, exposes what
+/// it does not declare, declares a name twice, or a declaration comes to nothing.
 pub fn module_items(alloc: Global, tree: &Module) -> Result<Option<Vec<Item>>, AllocError>
     ensures some { IfOk result (λ r. IfSome r (λ items. IsModule (module_view tree.now) (map item_view items.items))) }
     ensures none { IfOk result (λ r. r ≡ None → (items : List PlainItem) → IsModule (module_view tree.now) items → ⊥) }
 {
+    if !is_main(&tree.header) || !are_allowed(&tree.header, &tree.declarations) {
+        return Ok(None);
+    }
     let Some(names) = declared(alloc, &tree.declarations)? else {
         return Ok(None);
     };
-    if !has_main(&tree.declarations) {
+    if !exposes_declared(alloc, &names, &tree.header)? {
         return Ok(None);
     }
     items_of(alloc, &names, &tree.declarations)
-}
-
-/// Whether one of the declarations is `main`.
-fn has_main(declarations: &[Declaration]) -> bool
-    ensures { result ≡ list_any is_entry declarations.now }
-{
-    declarations.iter().any(|d| is_entry(d))
-}
-
-fn is_entry(declaration: &Declaration) -> bool
-    ensures { result ≡ is_entry declaration.now }
-{
-    match declaration {
-        Declaration::Main { .. } => true,
-        _ => false,
-    }
 }
 
 /// The items of declarations, in their order. None: one of them comes to nothing.
@@ -59,82 +43,112 @@ fn items_of(
     names: &Names,
     declarations: &[Declaration],
 ) -> Result<Option<Vec<Item>>, AllocError>
-    ensures some { (ds : List plain.Declaration) → Knows names.now ds → IfOk result (λ r. IfSome r (λ items. AreItems ds (declarations_view declarations.now) (map item_view items.items))) }
-    ensures none { (ds : List plain.Declaration) → Knows names.now ds → IfOk result (λ r. r ≡ None → (items : List PlainItem) → AreItems ds (declarations_view declarations.now) items → ⊥) }
+    ensures some { (ds : List plain.Declaration) → Knows names.now ds → IfOk result (λ r. IfSome r (λ items. AreItems ds (map declaration_view declarations.now) (map item_view items.items))) }
+    ensures none { (ds : List plain.Declaration) → Knows names.now ds → IfOk result (λ r. r ≡ None → IsRefused ds (map declaration_view declarations.now)) }
 {
     let mut items = Vec::with_capacity(alloc, declarations.len())?;
-    for declaration in declarations {
-        let Some(next) = item(alloc, names, declaration)? else {
+    let mut i = 0;
+    while i < declarations.len() {
+        let Some((item, next)) = item_at(alloc, names, declarations, i)? else {
             return Ok(None);
         };
-        items.push(next)?;
+        items.push(item)?;
+        i = next;
     }
     Ok(Some(items))
 }
 
-/// What a declaration comes to. None: nothing.
-fn item(alloc: Global, names: &Names, declaration: &Declaration) -> Result<Option<Item>, AllocError>
-    ensures some { (ds : List plain.Declaration) → Knows names.now ds → IfOk result (λ r. IfSome r (λ i. Adds ds (declaration_view declaration.now) i)) }
-    ensures none { (ds : List plain.Declaration) → Knows names.now ds → IfOk result (λ r. r ≡ None → IsRefused ds (declaration_view declaration.now)) }
+/// What a declaration comes to, together with the definition behind it where it is an annotation, and the place of the
+/// next one. None: nothing.
+fn item_at(
+    alloc: Global,
+    names: &Names,
+    declarations: &[Declaration],
+    i: usize,
+) -> Result<Option<(Item, usize)>, AllocError>
+    requires { i < length declarations.now }
+    ensures some { (ds : List plain.Declaration) → Knows names.now ds → IfOk result (λ r. IfSome r (λ n. Adds ds (map declaration_view (drop i declarations.now)) (item_view n.0) (map declaration_view (drop n.1 declarations.now)))) }
+    ensures none { (ds : List plain.Declaration) → Knows names.now ds → IfOk result (λ r. r ≡ None → IsRefused ds (map declaration_view (drop i declarations.now))) }
+    ensures further { IfOk result (λ r. IfSome r (λ n. (i < n.1) × (n.1 ≤ length declarations.now))) }
 {
-    match declaration {
-        Declaration::Port(name) => port_item(alloc, name),
-        Declaration::Value(value) => value_item(alloc, names, value),
-        Declaration::Main { port, sent } => main_item(alloc, names, port, sent),
+    match &declarations[i] {
+        Declaration::Port(name, port_type) => {
+            let Some(item) = port_item(alloc, name, port_type)? else {
+                return Ok(None);
+            };
+            Ok(Some((item, i + 1)))
+        }
+        Declaration::Annotation(name, annotation) => {
+            if i + 1 == declarations.len() {
+                return Ok(None);
+            }
+            let behind = &declarations[i + 1];
+            let Some(item) = annotated(alloc, names, name, annotation, behind)? else {
+                return Ok(None);
+            };
+            Ok(Some((item, i + 2)))
+        }
+        Declaration::Definition(_) => Ok(None),
     }
 }
 
-fn port_item(alloc: Global, name: &[u8]) -> Result<Option<Item>, AllocError>
-    ensures some { (ds : List plain.Declaration) → IfOk result (λ r. IfSome r (λ i. Adds ds (port_declarations name.now) i)) }
-    ensures none { (ds : List plain.Declaration) → IfOk result (λ r. r ≡ None → IsRefused ds (port_declarations name.now)) }
+fn port_item(alloc: Global, name: &[u8], port_type: &Type) -> Result<Option<Item>, AllocError>
+    ensures some { (ds rest : List plain.Declaration) → IfOk result (λ r. IfSome r (λ i. Adds ds (plain.Port name.now (type_view port_type.now) ∷ rest) (item_view i) rest)) }
+    ensures none { (ds rest : List plain.Declaration) → IfOk result (λ r. r ≡ None → IsRefused ds (plain.Port name.now (type_view port_type.now) ∷ rest)) }
 {
-    let Some(name) = value_name(alloc, name)? else {
+    let Some(payload) = port(port_type) else {
         return Ok(None);
     };
-    Ok(Some(Item::Port(name)))
+    let name = units(alloc, name)?;
+    Ok(Some(Item::Port(name, payload)))
 }
 
-fn value_item(alloc: Global, names: &Names, value: &tree::Value) -> Result<Option<Item>, AllocError>
-    ensures some { (ds : List plain.Declaration) → Knows names.now ds → IfOk result (λ r. IfSome r (λ i. Adds ds (declaration_view (declaration.Declaration.Value value.now)) i)) }
-    ensures none { (ds : List plain.Declaration) → Knows names.now ds → IfOk result (λ r. r ≡ None → IsRefused ds (declaration_view (declaration.Declaration.Value value.now))) }
+/// What an annotation and the declaration behind it come to. None: nothing.
+fn annotated(
+    alloc: Global,
+    names: &Names,
+    name: &[u8],
+    annotation: &Type,
+    behind: &Declaration,
+) -> Result<Option<Item>, AllocError>
+    ensures some { (ds : List plain.Declaration) → Knows names.now ds → (rest : List plain.Declaration) → IfOk result (λ r. IfSome r (λ i. Adds ds (plain.Annotation name.now (type_view annotation.now) ∷ declaration_view behind.now ∷ rest) (item_view i) rest)) }
+    ensures none { (ds : List plain.Declaration) → Knows names.now ds → (rest : List plain.Declaration) → IfOk result (λ r. r ≡ None → IsRefused ds (plain.Annotation name.now (type_view annotation.now) ∷ declaration_view behind.now ∷ rest)) }
 {
-    let Some(name) = value_name(alloc, value.name)? else {
+    let Declaration::Definition(definition) = behind else {
+        return Ok(None);
+    };
+    if !are_same(definition.name, name) {
+        return Ok(None);
+    }
+    value_item(alloc, names, annotation, definition)
+}
+
+fn are_same(name: &[u8], other: &[u8]) -> bool
+    ensures { result ≡ bytes_eq name.now other.now }
+{
+    name == other
+}
+
+/// The item of a definition with its annotation. None: one of the two means nothing.
+fn value_item(
+    alloc: Global,
+    names: &Names,
+    annotation: &Type,
+    value: &Definition,
+) -> Result<Option<Item>, AllocError>
+    ensures some { (ds : List plain.Declaration) → Knows names.now ds → IfOk result (λ r. IfSome r (λ i. IsValue ds value.now.name.now (type_view annotation.now) (map pattern_view value.now.parameters.items) (expr_view value.now.body) (item_view i))) }
+    ensures none { (ds : List plain.Declaration) → Knows names.now ds → IfOk result (λ r. r ≡ None → (i : PlainItem) → IsValue ds value.now.name.now (type_view annotation.now) (map pattern_view value.now.parameters.items) (expr_view value.now.body) i → ⊥) }
+{
+    let Some(annotation) = meaning(alloc, annotation)? else {
         return Ok(None);
     };
     let Some(body) = definition(alloc, names, &value.parameters, &value.body)? else {
         return Ok(None);
     };
-    let annotation = meaning(alloc, &value.annotation)?;
+    let name = units(alloc, value.name)?;
     Ok(Some(Item::Value(Value {
         name,
         annotation,
         body,
     })))
-}
-
-fn main_item(
-    alloc: Global,
-    names: &Names,
-    port: &[u8],
-    sent: &tree::Expr,
-) -> Result<Option<Item>, AllocError>
-    ensures some { (ds : List plain.Declaration) → Knows names.now ds → IfOk result (λ r. IfSome r (λ i. Adds ds (main_declarations port.now (expr_view sent.now)) i)) }
-    ensures none { (ds : List plain.Declaration) → Knows names.now ds → IfOk result (λ r. r ≡ None → IsRefused ds (main_declarations port.now (expr_view sent.now))) }
-{
-    let Some(body) = main(alloc, names, port, sent)? else {
-        return Ok(None);
-    };
-    Ok(Some(Item::Main(body)))
-}
-
-/// The units of a port's or a value's name. None: it is `main`.
-fn value_name(alloc: Global, name: &[u8]) -> Result<Option<Units>, AllocError>
-    ensures some { IfOk result (λ r. IfSome r (λ u. (u ≡ units_of name.now) × (is_main (units_of name.now) ≡ false))) }
-    ensures none { IfOk result (λ r. r ≡ None → is_main (units_of name.now) ≡ true) }
-{
-    let units = units(alloc, name)?;
-    if is_main(&units) {
-        return Ok(None);
-    }
-    Ok(Some(units))
 }

@@ -1,66 +1,78 @@
-//! What a type over Int means.
+//! What the type of an annotation means.
 
-ghost use Rattle.std.specs.Prelude.{◌≡◌, ◌++◌, Some, IfOk, map};
+ghost use Rattle.std.specs.Prelude.{◌≡◌, [], Some, IfOk, map, option_map};
+ghost use Rattle.std.specs.List.{fold};
 ghost use Rattle.elm_tree.specs.View as tree_view;
-ghost use Rattle.elm_type.specs.View.{type_view};
+ghost use Rattle.elm_type.specs.View.{type_view, field_view};
 ghost use Rattle.module_items.specs.Items.{type_meaning};
-ghost use Rattle.module_items.specs.Parameters.{parameters_of, parameters_behind};
+ghost use Rattle.module_items.specs.Steps.{type_step, field_step};
 
-use elm_tree::tree::Type;
-use elm_type::types::IntType;
+use crate::build::{function, named, pair, record, triple, with_field, with_type};
+use elm_tree::tree;
+use elm_type::types::{FieldType, Type};
 use std::alloc::{AllocError, Global};
 
-/// What the annotation means.
-pub(crate) fn meaning(alloc: Global, annotation: &Type) -> Result<IntType, AllocError>
-    ensures { IfOk result (λ t. type_meaning (tree_view.type_view annotation.now) ≡ Some (type_view t)) }
+/// What a type means. Parentheses leave nothing. None: it means nothing.
+#[cycle(types)]
+pub(crate) fn meaning(alloc: Global, t: &tree::Type) -> Result<Option<Type>, AllocError>
+    ensures { IfOk result (λ r. option_map type_view r ≡ type_meaning (tree_view.type_view t.now)) }
 {
-    let parameters = with_parameters(alloc, annotation, Vec::new(alloc))?;
-    Ok(IntType { parameters })
-}
-
-/// The types `front`, and behind them the parameters of the annotation.
-#[cycle(parameters)]
-fn with_parameters(
-    alloc: Global,
-    annotation: &Type,
-    front: Vec<IntType>,
-) -> Result<Vec<IntType>, AllocError>
-    ensures { IfOk result (λ ts. map type_view ts.items ≡ map type_view front.items ++ parameters_of (tree_view.type_view annotation.now)) }
-{
-    match annotation {
-        Type::Int => Ok(front),
-        Type::Parens(inner) => with_parameters(alloc, inner, front),
-        Type::Function(first, others) => {
-            if others.is_empty() {
-                return with_parameters(alloc, first, front);
-            }
-            let mut all = front;
-            let parameters = with_parameters(alloc, first, Vec::new(alloc))?;
-            all.push(IntType { parameters })?;
-            with_others(alloc, others, all)
+    match t {
+        tree::Type::Variable(_) => Ok(None),
+        tree::Type::Named(name, arguments) => {
+            let arguments = meanings(alloc, arguments)?;
+            named(alloc, name, arguments)
         }
+        tree::Type::Unit => Ok(Some(Type::Unit)),
+        tree::Type::Pair(first, second) => {
+            let first = meaning(alloc, first)?;
+            let second = meaning(alloc, second)?;
+            pair(alloc, first, second)
+        }
+        tree::Type::Triple(first, second, third) => {
+            let first = meaning(alloc, first)?;
+            let second = meaning(alloc, second)?;
+            let third = meaning(alloc, third)?;
+            triple(alloc, first, second, third)
+        }
+        tree::Type::Record(fields) => {
+            let fields = meanings_of_fields(alloc, fields)?;
+            record(alloc, fields)
+        }
+        tree::Type::Function(first, others) => {
+            let first = meaning(alloc, first)?;
+            let others = meanings(alloc, others)?;
+            function(alloc, first, others)
+        }
+        tree::Type::Parens(inner) => meaning(alloc, inner),
     }
 }
 
-/// The types `front`, and behind them the parameters of what stands behind an arrow.
-#[cycle(parameters)]
-fn with_others(
-    alloc: Global,
-    others: &Vec<Type>,
-    front: Vec<IntType>,
-) -> Result<Vec<IntType>, AllocError>
-    ensures { IfOk result (λ ts. map type_view ts.items ≡ map type_view front.items ++ parameters_behind (map tree_view.type_view others.now.items)) }
+/// What types mean.
+#[cycle(types)]
+fn meanings(alloc: Global, types: &[tree::Type]) -> Result<Option<Vec<Type>>, AllocError>
+    ensures { IfOk result (λ r. option_map (λ v. map type_view v.items) r ≡ fold type_step (Some []) (map tree_view.type_view types.now)) }
 {
-    let mut all = front;
-    let mut left = others.len();
-    for other in others {
-        left -= 1;
-        if left == 0 {
-            all = with_parameters(alloc, other, all)?;
-        } else {
-            let parameters = with_parameters(alloc, other, Vec::new(alloc))?;
-            all.push(IntType { parameters })?;
-        }
+    let mut meanings = Some(Vec::new(alloc));
+    for t in types {
+        let meaning = meaning(alloc, t)?;
+        meanings = with_type(meanings, meaning)?;
     }
-    Ok(all)
+    Ok(meanings)
+}
+
+/// What the types of fields mean.
+#[cycle(types)]
+fn meanings_of_fields(
+    alloc: Global,
+    fields: &[tree::FieldType],
+) -> Result<Option<Vec<FieldType>>, AllocError>
+    ensures { IfOk result (λ r. option_map (λ v. map field_view v.items) r ≡ fold field_step (Some []) (map tree_view.field_type_view fields.now)) }
+{
+    let mut meanings = Some(Vec::new(alloc));
+    for field in fields {
+        let meaning = meaning(alloc, &field.field_type)?;
+        meanings = with_field(alloc, meanings, field.name, meaning)?;
+    }
+    Ok(meanings)
 }
