@@ -25,9 +25,9 @@ two_opened a b c p q l o u = record {
   grows = grows_more a b c o.grows u.grows;
   back = λ σ f. tt;
   on = λ k σ f t h. (
-    let r = o.on k σ f t.0 tt in
-    let s = u.on (o.grows.closed k) r.types r.fit t.1 tt in
-    record { types = s.types; agree = agree_more (length a) (length b) σ r.types s.types o.grows.count r.agree s.agree; fit = s.fit; also = ap (λ x. (x, s.types q)) (sym (s.agree.each p l) ∙ r.also) ∙ ap (λ y. (t.0, y)) s.also });
+      let r = o.on k σ f t.0 tt in
+      let s = u.on (o.grows.closed k) r.types r.fit t.1 tt in
+      record { types = s.types; agree = agree_more (length a) (length b) σ r.types s.types o.grows.count r.agree s.agree; fit = s.fit; also = ap (λ x. (x, s.types q)) (sym (s.agree.each p l) ∙ r.also) ∙ ap (λ y. (t.0, y)) s.also });
 }
 
 pub three_opened : (a b c d : List Cell) (p q r : ℕ) → p < length b → q < length c → Opens a b (λ σ. σ p) (λ σ t. Unit {0}) → Opens b c (λ σ. σ q) (λ σ t. Unit {0}) → Opens c d (λ σ. σ r) (λ σ t. Unit {0}) → Opens {A = ElmType × ElmType × ElmType} a d (λ σ. (σ p, σ q, σ r)) (λ σ t. Unit {0})
@@ -35,18 +35,18 @@ three_opened a b c d p q r l m o u v = record {
   grows = grows_more a b d o.grows (grows_more b c d u.grows v.grows);
   back = λ σ f. tt;
   on = λ k σ f t h. (
-    let n = two_opened a b c p q l o u in
-    let x = n.on k σ f (t.0, t.1) tt in
-    let y = v.on (n.grows.closed k) x.types x.fit t.2 tt in
-    let first : x.types p ≡ t.0 = ap (λ z. z.0) x.also in
-    let second : x.types q ≡ t.1 = ap (λ z. z.1) x.also in
-    let c_count : length b ≤ length c = u.grows.count in
-    record {
-      types = y.types;
-      agree = agree_more (length a) (length c) σ x.types y.types n.grows.count x.agree y.agree;
-      fit = y.fit;
-      also = ap (λ z. (z, y.types q, y.types r)) (sym (y.agree.each p (omega arith)) ∙ first) ∙ (ap (λ z. (t.0, z, y.types r)) (sym (y.agree.each q m) ∙ second) ∙ ap (λ z. (t.0, t.1, z)) y.also);
-    });
+      let n = two_opened a b c p q l o u in
+      let x = n.on k σ f (t.0, t.1) tt in
+      let y = v.on (n.grows.closed k) x.types x.fit t.2 tt in
+      let first : x.types p ≡ t.0 = ap (λ z. z.0) x.also in
+      let second : x.types q ≡ t.1 = ap (λ z. z.1) x.also in
+      let c_count : length b ≤ length c = u.grows.count in
+      record {
+        types = y.types;
+        agree = agree_more (length a) (length c) σ x.types y.types n.grows.count x.agree y.agree;
+        fit = y.fit;
+        also = ap (λ z. (z, y.types q, y.types r)) (sym (y.agree.each p (omega arith)) ∙ first) ∙ (ap (λ z. (t.0, z, y.types r)) (sym (y.agree.each q m) ∙ second) ∙ ap (λ z. (t.0, t.1, z)) y.also);
+      });
 }
 
 module _ (known : Known) (scope : Scope) (w : ℕ) (s : List Cell) (inside : w < length s) (below : InScope (length s) scope) where
@@ -91,7 +91,6 @@ module _ (known : Known) (scope : Scope) (w : ℕ) (s : List Cell) (inside : w <
       (λ σ h. (h.2, (subst (Has (look_at known scope σ) d) (sym h.2) h.0, subst (Has (look_at known scope σ) e) (sym h.2) h.1)))
       answer a
 
-
   pub call_answers : (first mid new : List Cell) (ps : List ℕ) (c n : ℕ) (f : Expr) (es : Exprs) → All (λ p. p < length first) ps → ((look : Look) (ts : List ElmType) → HaveEach look es ts → length ts ≡ n) → Opens s first (λ σ. map σ ps) (λ σ ts. length ts ≡ n) → Makes first mid (λ σ. σ c ≡ taking (map σ ps) (σ w)) → (answer : Bool) → Answers mid new (λ σ. HasAt known scope f c σ × EachHasAt known scope es ps σ) answer → Answers s new (HasAt known scope (Apply f es) w) answer
   call_answers first mid new ps c n f es places counts o m answer a =
       same_answers s new _ (HasAt known scope (Apply f es) w) (λ σ h. (h.0, h.2.0, h.2.1)) (λ σ h. (h.0, counts (look_at known scope σ) h.0 h.2, (h.1, h.2))) answer
@@ -103,12 +102,11 @@ module _ (known : Known) (scope : Scope) (w : ℕ) (s : List Cell) (inside : w <
       let i = scope_later (length s) (length first) scope l below in
       record {
         moves = λ σ τ g h. (
-          let e : map σ ps ≡ map τ ps = same_types (length first) σ τ ps g places in
-          let t : taking (map σ ps) (σ w) ≡ taking (map τ ps) (τ w) = ap (λ ts. taking ts (σ w)) e ∙ ap (taking (map τ ps)) (g.each w (omega arith)) in
-          (
-            has_same (length first) known scope σ τ f (taking (map σ ps) (σ w)) (taking (map τ ps) (τ w)) i g t h.0,
-            subst (λ k. HaveEach k es (map τ ps)) (look_same (length first) known scope σ τ i g) (subst (HaveEach (look_at known scope σ) es) e h.1),
-          ));
+            let e : map σ ps ≡ map τ ps = same_types (length first) σ τ ps g places in
+            let t : taking (map σ ps) (σ w) ≡ taking (map τ ps) (τ w) = ap (λ ts. taking ts (σ w)) e ∙ ap (taking (map τ ps)) (g.each w (omega arith)) in (
+              has_same (length first) known scope σ τ f (taking (map σ ps) (σ w)) (taking (map τ ps) (τ w)) i g t h.0,
+              subst (λ k. HaveEach k es (map τ ps)) (look_same (length first) known scope σ τ i g) (subst (HaveEach (look_at known scope σ) es) e h.1),
+            ));
       })
       (λ σ e h. (subst (Has (look_at known scope σ) f) e h.0, h.1)) (λ σ e h. (subst (Has (look_at known scope σ) f) (sym e) h.0, h.1)) answer a))
 

@@ -55,9 +55,9 @@ built_both rigid a b c first second third ps qs fs gs p q = record {
   stand = λ e σ f m. q.stand e σ f (p.stand e σ (q.grows.back σ f) m);
   values = λ σ choice f m. map-append σ ps qs ∙ (ap (λ us. us ++ map σ qs) (p.values σ choice (q.grows.back σ f) (q.fewer σ choice m)) ∙ ap (λ us. fs choice ++ us) (q.values σ choice f m));
   on = λ k σ choice may f m. (
-    let r = p.on k σ choice may f m in
-    let s = q.on (p.grows.closed k) r.types choice may r.fit r.also in
-    record { types = s.types; agree = agree_more (length a) (length b) σ r.types s.types p.grows.count r.agree s.agree; fit = s.fit; also = s.also });
+      let r = p.on k σ choice may f m in
+      let s = q.on (p.grows.closed k) r.types choice may r.fit r.also in
+      record { types = s.types; agree = agree_more (length a) (length b) σ r.types s.types p.grows.count r.agree s.agree; fit = s.fit; also = s.also });
 }
 
 -- a type of these parts
@@ -71,14 +71,14 @@ built_made rigid a b c first second ps fs p form made q m l is = record {
   stand = λ e σ f h. q.stand e σ (m.grows.back σ f) h;
   values = λ σ choice f h. ap (λ t. t ∷ []) (m.back σ f ∙ (ap form (q.values σ choice (m.grows.back σ f) h) ∙ is choice));
   on = λ k σ choice may f h. (
-    let r = q.on k σ choice may f h in
-    let s = m.on (q.grows.closed k) r.types r.fit in
-    record {
-      types = s.types;
-      agree = agree_more (length a) (length b) σ r.types s.types q.grows.count r.agree s.agree;
-      fit = s.fit;
-      also = matches_moved (length b) second r.types s.types choice q.places s.agree r.also;
-    });
+      let r = q.on k σ choice may f h in
+      let s = m.on (q.grows.closed k) r.types r.fit in
+      record {
+        types = s.types;
+        agree = agree_more (length a) (length b) σ r.types s.types q.grows.count r.agree s.agree;
+        fit = s.fit;
+        also = matches_moved (length b) second r.types s.types choice q.places s.agree r.also;
+      });
 }
 
 pub built_known : (rigid : Bool) (s : List Cell) (places : ℕ → Option ℕ) (i v : ℕ) → AreInside (length s) places → places i ≡ Some v → Built rigid s s places places (v ∷ []) (λ choice. choice i ∷ [])
@@ -140,8 +140,8 @@ module _ (old : ℕ → Option ℕ) (i v : ℕ) (none : old i ≡ None) where
     stand = λ e σ f h. more_match σ Variable (sym (m.back σ f)) h;
     values = λ σ choice f h. ap (λ t. t ∷ []) (sym (h.each i v at_last));
     on = λ k σ choice may f h. (
-      let r = m.on k σ f in
-      record { types = r.types; agree = r.agree; fit = r.fit; also = more_match r.types choice (may refl i ∙ sym (m.back r.types r.fit)) (matches_moved (length s) old σ r.types choice a r.agree h) });
+        let r = m.on k σ f in
+        record { types = r.types; agree = r.agree; fit = r.fit; also = more_match r.types choice (may refl i ∙ sym (m.back r.types r.fit)) (matches_moved (length s) old σ r.types choice a r.agree h) });
   }
   new_built false s t a l m = record {
     grows = m.grows;
@@ -152,8 +152,8 @@ module _ (old : ℕ → Option ℕ) (i v : ℕ) (none : old i ≡ None) where
     stand = λ e σ f h. absurd (let w : false ≡ true = e in cc);
     values = λ σ choice f h. ap (λ t. t ∷ []) (sym (h.each i v at_last));
     on = λ k σ choice may f h. (
-      let r = m.on k σ f (choice i) tt in
-      record { types = r.types; agree = r.agree; fit = r.fit; also = more_match r.types choice (sym r.also) (matches_moved (length s) old σ r.types choice a r.agree h) });
+        let r = m.on k σ f (choice i) tt in
+        record { types = r.types; agree = r.agree; fit = r.fit; also = more_match r.types choice (sym r.also) (matches_moved (length s) old σ r.types choice a r.agree h) });
   }
 
 pub built_new : (rigid : Bool) (s t : List Cell) (old new : ℕ → Option ℕ) (i v : ℕ) → AreInside (length s) old → old i ≡ None → ((j : ℕ) → new j ≡ cond (is_eq (nat_cmp i j)) (Some v) (old j)) → v < length t → IsVariable rigid s t i v → Built rigid s t old new (v ∷ []) (λ choice. choice i ∷ [])
@@ -225,20 +225,20 @@ module _ (old mid new : List Cell) (first second : ℕ → Option ℕ) (place wa
   instance_answers l b true a = record {
     grows = grows_more old mid new b.grows a.grows;
     back = λ σ f. (
-      let choice = λ (i : ℕ). given (second i) σ in
-      let e : σ place ≡ instantiate choice t = one_type _ _ (b.values σ choice (a.grows.back σ f) (filled_matches second σ)) in
-      (choice, sym (a.back σ f) ∙ e));
+        let choice = λ (i : ℕ). given (second i) σ in
+        let e : σ place ≡ instantiate choice t = one_type _ _ (b.values σ choice (a.grows.back σ f) (filled_matches second σ)) in
+        (choice, sym (a.back σ f) ∙ e));
     on = λ k σ f h. (
-      let r = b.on k σ h.0 (λ e. absurd (let w : false ≡ true = e in cc)) f (none_match first σ h.0 none) in
-      let e : r.types place ≡ instantiate h.0 t = one_type _ _ (b.values r.types h.0 r.fit r.also) in
-      let s = a.on (b.grows.closed k) r.types r.fit (e ∙ (sym h.1 ∙ r.agree.each wanted l)) in
-      record { types = s.types; agree = agree_more (length old) (length mid) σ r.types s.types b.grows.count r.agree s.agree; fit = s.fit; also = tt });
+        let r = b.on k σ h.0 (λ e. absurd (let w : false ≡ true = e in cc)) f (none_match first σ h.0 none) in
+        let e : r.types place ≡ instantiate h.0 t = one_type _ _ (b.values r.types h.0 r.fit r.also) in
+        let s = a.on (b.grows.closed k) r.types r.fit (e ∙ (sym h.1 ∙ r.agree.each wanted l)) in
+        record { types = s.types; agree = agree_more (length old) (length mid) σ r.types s.types b.grows.count r.agree s.agree; fit = s.fit; also = tt });
   }
   instance_answers l b false a = record {
     never = λ k σ f h. (
-      let r = b.on k σ h.0 (λ e. absurd (let w : false ≡ true = e in cc)) f (none_match first σ h.0 none) in
-      let e : r.types place ≡ instantiate h.0 t = one_type _ _ (b.values r.types h.0 r.fit r.also) in
-      a.never (b.grows.closed k) r.types r.fit (e ∙ (sym h.1 ∙ r.agree.each wanted l)));
+        let r = b.on k σ h.0 (λ e. absurd (let w : false ≡ true = e in cc)) f (none_match first σ h.0 none) in
+        let e : r.types place ≡ instantiate h.0 t = one_type _ _ (b.values r.types h.0 r.fit r.also) in
+        a.never (b.grows.closed k) r.types r.fit (e ∙ (sym h.1 ∙ r.agree.each wanted l)));
   }
 
   -- a place of a known type
@@ -247,6 +247,6 @@ module _ (old mid new : List Cell) (first second : ℕ → Option ℕ) (place wa
     grows = b.grows;
     back = λ σ f. one_type _ _ (b.values σ (λ i. Variable i) f (b.stand refl σ f (none_match first σ (λ i. Variable i) none))) ∙ itself t;
     on = λ k σ f. (
-      let r = b.on k σ (λ i. Variable i) (λ e i. refl) f (none_match first σ (λ i. Variable i) none) in
-      record { types = r.types; agree = r.agree; fit = r.fit; also = tt });
+        let r = b.on k σ (λ i. Variable i) (λ e i. refl) f (none_match first σ (λ i. Variable i) none) in
+        record { types = r.types; agree = r.agree; fit = r.fit; also = tt });
   }

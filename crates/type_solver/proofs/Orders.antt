@@ -78,9 +78,9 @@ more_order m n k v ks ps absent e u i = record {
   names = λ j. ap is_some (btree_map_updates_str k.now m n (Some v) u j) ∙ (some_either (bytes_eq k.now j) v (lookup (is_at (λ x. slice_cmp nat_cmp j x.now)) m.entries) (has_name j ks) (i.names j) ∙ ap (λ b. if b then true else has_name j ks) (either_way k.now j));
   order = λ σ. ap (λ es. fields_of (names_of es) (map σ (places_of es))) e ∙ (inserted_fields k v m.entries σ (is_none _ absent) ∙ ap (insert_field k.now (σ v)) (i.order σ));
   inside = λ c h. (
-    let r = recursion_from_All (λ p. p < c) (v ∷ ps) h in
-    let old = i.inside c (all_from c ps r.1) in
-    subst (λ (es : Entries). All (λ p. p < c) (places_of es)) (sym e) (all_from c _ (inserted_inside c k v m.entries r.0 (recursion_from_All (λ p. p < c) (places_of m.entries) old))));
+      let r = recursion_from_All (λ p. p < c) (v ∷ ps) h in
+      let old = i.inside c (all_from c ps r.1) in
+      subst (λ (es : Entries). All (λ p. p < c) (places_of es)) (sym e) (all_from c _ (inserted_inside c k v m.entries r.0 (recursion_from_All (λ p. p < c) (places_of m.entries) old))));
 }
 
 -- a name that stands twice
@@ -105,18 +105,18 @@ module _ (s mid : List Cell) (es : Entries) (ks : List (List ℕ)) (ps : List �
     grows = grows_more s mid new o.grows a.grows;
     back = λ σ f. (length-map ps σ ∙ (all ∙ sym count), i.once, a.back σ f ∙ record_form σ);
     on = λ k σ f ts h. (
-      let r = o.on k σ f ts (h.0 ∙ count) in
-      let e : r.types w ≡ RecordType (fields_of names (map r.types parts)) = sym (r.agree.each w l) ∙ (h.2 ∙ (ap (λ us. RecordType (in_order ks us)) (sym r.also) ∙ sym (record_form r.types))) in
-      let q = a.on (o.grows.closed k) r.types r.fit e in
-      record { types = q.types; agree = agree_more (length s) (length mid) σ r.types q.types o.grows.count r.agree q.agree; fit = q.fit; also = sym (same_types (length mid) r.types q.types ps q.agree places) ∙ r.also });
+        let r = o.on k σ f ts (h.0 ∙ count) in
+        let e : r.types w ≡ RecordType (fields_of names (map r.types parts)) = sym (r.agree.each w l) ∙ (h.2 ∙ (ap (λ us. RecordType (in_order ks us)) (sym r.also) ∙ sym (record_form r.types))) in
+        let q = a.on (o.grows.closed k) r.types r.fit e in
+        record { types = q.types; agree = agree_more (length s) (length mid) σ r.types q.types o.grows.count r.agree q.agree; fit = q.fit; also = sym (same_types (length mid) r.types q.types ps q.agree places) ∙ r.also });
   }
 
   pub record_refused : Refuses mid (λ σ. σ w ≡ RecordType (fields_of names (map σ parts))) → Refuses s (λ σ. (ts : List ElmType) × IsRecordOf ks (σ w) ts)
   record_refused a = record {
     never = λ k σ f h. (
-      let r = o.on k σ f h.0 (h.1.0 ∙ count) in
-      let e : r.types w ≡ RecordType (fields_of names (map r.types parts)) = sym (r.agree.each w l) ∙ (h.1.2 ∙ (ap (λ us. RecordType (in_order ks us)) (sym r.also) ∙ sym (record_form r.types))) in
-      a.never (o.grows.closed k) r.types r.fit e);
+        let r = o.on k σ f h.0 (h.1.0 ∙ count) in
+        let e : r.types w ≡ RecordType (fields_of names (map r.types parts)) = sym (r.agree.each w l) ∙ (h.1.2 ∙ (ap (λ us. RecordType (in_order ks us)) (sym r.also) ∙ sym (record_form r.types))) in
+        a.never (o.grows.closed k) r.types r.fit e);
   }
 
 pub never_once : (s : List Cell) (ks : List (List ℕ)) (w : ℕ) → (AreOnce ks → ⊥) → Refuses s (λ σ. (ts : List ElmType) × IsRecordOf ks (σ w) ts)

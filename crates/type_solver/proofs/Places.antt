@@ -51,9 +51,9 @@ module _ (old new : List Cell) (count : length new ≡ length old + 1) (fits : (
     grows = fresh_grows;
     back = λ σ f. tt;
     on = λ k σ f t u. (
-      let τ = with_type place t σ in
-      let a : Agree (length old) σ τ = subst (λ n. Agree n σ τ) e (others place t σ) in
-      record { types = τ; agree = a; fit = (fits τ).1 (k.each σ τ a f); also = here place t σ });
+        let τ = with_type place t σ in
+        let a : Agree (length old) σ τ = subst (λ n. Agree n σ τ) e (others place t σ) in
+        record { types = τ; agree = a; fit = (fits τ).1 (k.each σ τ a f); also = here place t σ });
   }
 
 -- a place of known form
@@ -65,19 +65,19 @@ module _ (old new : List Cell) (head : Head) (parts : List ℕ) (place : ℕ) (c
       count = omega arith;
       closed = λ k. record {
         each = λ σ τ a f. (
-          let g = (fits σ).0 f in
-          let b = agree_fewer (length old) (length new) σ τ (omega arith) a in
-          (fits τ).1 (k.each σ τ b g.0, sym (a.each place (omega arith)) ∙ (g.1 ∙ ap (build head) (same_types (length old) σ τ parts b inside))));
+            let g = (fits σ).0 f in
+            let b = agree_fewer (length old) (length new) σ τ (omega arith) a in
+            (fits τ).1 (k.each σ τ b g.0, sym (a.each place (omega arith)) ∙ (g.1 ∙ ap (build head) (same_types (length old) σ τ parts b inside))));
       };
       solvable = λ h. solvable;
       back = λ σ f. ((fits σ).0 f).0;
     };
     back = λ σ f. ((fits σ).0 f).1;
     on = λ k σ f. (
-      let t = build head (map σ parts) in
-      let τ = with_type place t σ in
-      let a : Agree (length old) σ τ = subst (λ n. Agree n σ τ) is (others place t σ) in
-      record { types = τ; agree = a; fit = (fits τ).1 (k.each σ τ a f, here place t σ ∙ ap (build head) (same_types (length old) σ τ parts a inside)); also = tt });
+        let t = build head (map σ parts) in
+        let τ = with_type place t σ in
+        let a : Agree (length old) σ τ = subst (λ n. Agree n σ τ) is (others place t σ) in
+        record { types = τ; agree = a; fit = (fits τ).1 (k.each σ τ a f, here place t σ ∙ ap (build head) (same_types (length old) σ τ parts a inside)); also = tt });
   }
 
 -- an equation between two places
@@ -89,9 +89,9 @@ add_answers old new v w true l m n solvable joined differ =
         count = omega arith;
         closed = λ k. record {
           each = λ σ τ a f. (
-            let g = j.back σ f in
-            let b = agree_fewer (length old) (length new) σ τ (omega arith) a in
-            j.on τ (k.each σ τ b g.0) (sym (b.each v l) ∙ (g.1 ∙ b.each w m)));
+              let g = j.back σ f in
+              let b = agree_fewer (length old) (length new) σ τ (omega arith) a in
+              j.on τ (k.each σ τ b g.0) (sym (b.each v l) ∙ (g.1 ∙ b.each w m)));
         };
         solvable = λ h. solvable;
         back = λ σ f. (j.back σ f).0;
@@ -114,17 +114,17 @@ one_more old mid new ps p n l inside o q = record {
   grows = grows_more old mid new o.grows q.grows;
   back = λ σ f. (let e = length-map (ps ++ p ∷ []) σ in let h = length-append ps (p ∷ []) in omega arith);
   on = λ k σ f ts e. (
-    let first : length (take n ts) ≡ n = simp length-take (omega arith) in
-    let r = o.on k σ f (take n ts) first in
-    let s = q.on (o.grows.closed k) r.types r.fit (get_or ts n UnitType) tt in
-    let at : n < length ts = omega arith in
-    let all : length ts ≤ suc n = omega arith in
-    record {
-      types = s.types;
-      agree = agree_more (length old) (length mid) σ r.types s.types o.grows.count r.agree s.agree;
-      fit = s.fit;
-      also = map-append s.types ps (p ∷ []) ∙ (ap (λ us. us ++ s.types p ∷ []) (sym (same_types (length mid) r.types s.types ps s.agree inside) ∙ r.also) ∙ (ap (λ t. take n ts ++ t ∷ []) s.also ∙ (sym (take-suc ts n UnitType at) ∙ take_all (suc n) ts all)));
-    });
+      let first : length (take n ts) ≡ n = simp length-take (omega arith) in
+      let r = o.on k σ f (take n ts) first in
+      let s = q.on (o.grows.closed k) r.types r.fit (get_or ts n UnitType) tt in
+      let at : n < length ts = omega arith in
+      let all : length ts ≤ suc n = omega arith in
+      record {
+        types = s.types;
+        agree = agree_more (length old) (length mid) σ r.types s.types o.grows.count r.agree s.agree;
+        fit = s.fit;
+        also = map-append s.types ps (p ∷ []) ∙ (ap (λ us. us ++ s.types p ∷ []) (sym (same_types (length mid) r.types s.types ps s.agree inside) ∙ r.also) ∙ (ap (λ t. take n ts ++ t ∷ []) s.also ∙ (sym (take-suc ts n UnitType at) ∙ take_all (suc n) ts all)));
+      });
 }
 
 -- a function of one argument more

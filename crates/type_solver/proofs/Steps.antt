@@ -29,16 +29,16 @@ module _ (old mid new : List Cell) (P Q : (ℕ → ElmType) → Type 0) where
     grows = grows_more old mid new p.grows q.grows;
     back = λ σ f. (p.back σ (q.grows.back σ f), q.back σ f);
     on = λ k σ f h. (
-      let r = p.on k σ f h.0 in
-      let s = q.on (p.grows.closed k) r.types r.fit (b.moves σ r.types r.agree h.1) in
-      record { types = s.types; agree = agree_more (length old) (length mid) σ r.types s.types p.grows.count r.agree s.agree; fit = s.fit; also = tt });
+        let r = p.on k σ f h.0 in
+        let s = q.on (p.grows.closed k) r.types r.fit (b.moves σ r.types r.agree h.1) in
+        record { types = s.types; agree = agree_more (length old) (length mid) σ r.types s.types p.grows.count r.agree s.agree; fit = s.fit; also = tt });
   }
 
   then_refuses : Asks old mid P → IsBelow (length old) Q → Refuses mid Q → Refuses old (λ σ. P σ × Q σ)
   then_refuses p b q = record {
     never = λ k σ f h. (
-      let r = p.on k σ f h.0 in
-      q.never (p.grows.closed k) r.types r.fit (b.moves σ r.types r.agree h.1));
+        let r = p.on k σ f h.0 in
+        q.never (p.grows.closed k) r.types r.fit (b.moves σ r.types r.agree h.1));
   }
 
   pub then_answers : Asks old mid P → IsBelow (length old) Q → (answer : Bool) → Answers mid new Q answer → Answers old new (λ σ. P σ × Q σ) answer
@@ -59,16 +59,16 @@ module _ {A : Type 0} (old mid new : List Cell) (seen : (ℕ → ElmType) → A)
     grows = grows_more old mid new o.grows q.grows;
     back = λ σ f. (seen σ, o.back σ (q.grows.back σ f), q.back σ f);
     on = λ k σ f h. (
-      let r = o.on k σ f h.0 h.1 in
-      let s = q.on (o.grows.closed k) r.types r.fit (subst (P r.types) (sym r.also) (m.moves σ r.types h.0 r.agree h.2)) in
-      record { types = s.types; agree = agree_more (length old) (length mid) σ r.types s.types o.grows.count r.agree s.agree; fit = s.fit; also = tt });
+        let r = o.on k σ f h.0 h.1 in
+        let s = q.on (o.grows.closed k) r.types r.fit (subst (P r.types) (sym r.also) (m.moves σ r.types h.0 r.agree h.2)) in
+        record { types = s.types; agree = agree_more (length old) (length mid) σ r.types s.types o.grows.count r.agree s.agree; fit = s.fit; also = tt });
   }
 
   open_refuses : Opens old mid seen Q → MovesOn → Refuses mid (λ σ. P σ (seen σ)) → Refuses old (λ σ. (a : A) × Q σ a × P σ a)
   open_refuses o m q = record {
     never = λ k σ f h. (
-      let r = o.on k σ f h.0 h.1 in
-      q.never (o.grows.closed k) r.types r.fit (subst (P r.types) (sym r.also) (m.moves σ r.types h.0 r.agree h.2)));
+        let r = o.on k σ f h.0 h.1 in
+        q.never (o.grows.closed k) r.types r.fit (subst (P r.types) (sym r.also) (m.moves σ r.types h.0 r.agree h.2)));
   }
 
   pub open_answers : Opens old mid seen Q → MovesOn → (answer : Bool) → Answers mid new (λ σ. P σ (seen σ)) answer → Answers old new (λ σ. (a : A) × Q σ a × P σ a) answer
@@ -91,14 +91,14 @@ module _ (old mid new : List Cell) (P Q R : (ℕ → ElmType) → Type 0) where
     grows = grows_more old mid new m.grows q.grows;
     back = λ σ f. (let g = q.grows.back σ f in to σ (m.back σ g) (q.back σ f));
     on = λ k σ f h. (
-      let r = m.on k σ f in
-      let s = q.on (m.grows.closed k) r.types r.fit (from r.types (m.back r.types r.fit) (b.moves σ r.types r.agree h)) in
-      record { types = s.types; agree = agree_more (length old) (length mid) σ r.types s.types m.grows.count r.agree s.agree; fit = s.fit; also = tt });
+        let r = m.on k σ f in
+        let s = q.on (m.grows.closed k) r.types r.fit (from r.types (m.back r.types r.fit) (b.moves σ r.types r.agree h)) in
+        record { types = s.types; agree = agree_more (length old) (length mid) σ r.types s.types m.grows.count r.agree s.agree; fit = s.fit; also = tt });
   }
   makes_answers m b to from false q = record {
     never = λ k σ f h. (
-      let r = m.on k σ f in
-      q.never (m.grows.closed k) r.types r.fit (from r.types (m.back r.types r.fit) (b.moves σ r.types r.agree h)));
+        let r = m.on k σ f in
+        q.never (m.grows.closed k) r.types r.fit (from r.types (m.back r.types r.fit) (b.moves σ r.types r.agree h)));
   }
 
 pub makes_more : (old mid new : List Cell) (P Q : (ℕ → ElmType) → Type 0) → Makes old mid P → Makes mid new Q → Makes old new (λ σ. P σ × Q σ)
@@ -106,9 +106,9 @@ makes_more old mid new P Q p q = record {
   grows = grows_more old mid new p.grows q.grows;
   back = λ σ f. (p.back σ (q.grows.back σ f), q.back σ f);
   on = λ k σ f. (
-    let r = p.on k σ f in
-    let s = q.on (p.grows.closed k) r.types r.fit in
-    record { types = s.types; agree = agree_more (length old) (length mid) σ r.types s.types p.grows.count r.agree s.agree; fit = s.fit; also = tt });
+      let r = p.on k σ f in
+      let s = q.on (p.grows.closed k) r.types r.fit in
+      record { types = s.types; agree = agree_more (length old) (length mid) σ r.types s.types p.grows.count r.agree s.agree; fit = s.fit; also = tt });
 }
 
 pub makes_same : (old new : List Cell) (P Q : (ℕ → ElmType) → Type 0) → ((σ : ℕ → ElmType) → P σ → Q σ) → Makes old new P → Makes old new Q

@@ -146,7 +146,11 @@ pub(crate) fn make_named(
     let Ok(count) = u32::try_from(parts.len()) else {
         return Err(AllocError);
     };
-    make(store, Head::Named(home.clone()?, name.clone()?, count), parts)
+    make(
+        store,
+        Head::Named(home.clone()?, name.clone()?, count),
+        parts,
+    )
 }
 
 /// A place of a record whose fields have these types.

@@ -45,8 +45,6 @@ impl<'a> Names<'a> {
     pub fn get(&self, home: &'a Units, name: &'a Units) -> Option<&'a Type>
         ensures { option_map (λ t. type_view t.now) result ≡ known_of self.now home.now name.now }
     {
-        self.types
-            .get(&(home.as_slice(), name.as_slice()))
-            .copied()
+        self.types.get(&(home.as_slice(), name.as_slice())).copied()
     }
 }

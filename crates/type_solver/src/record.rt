@@ -58,7 +58,10 @@ fn in_order<'a>(
 {
     let mut order = BTreeMap::new(alloc);
     for i in (0..fields.len()).rev() {
-        if order.insert(fields[i].name.as_slice(), places[i])?.is_some() {
+        if order
+            .insert(fields[i].name.as_slice(), places[i])?
+            .is_some()
+        {
             return Ok(None);
         }
     }

@@ -222,7 +222,7 @@ ask_each-loop-i-preserved t c =
       count = omega arith;
       kept = c.in_ok-ask.ensures.kept ∙ c.loop-i.invariant.kept;
       rest = Asked.less_left s now next whole (EachHasAt known scope (exprs_of (map expr_view (drop i xs))) (drop i ps)) first left same
-      (Asked.each_below (length now) known scope (exprs_of (map expr_view (drop (i + 1) xs))) (drop (i + 1) ps) (scope_later (length s) (length now) scope low c.requires.scope) (All-drop (λ q. q < length now) (i + 1) ps places)) c.loop-i.invariant.rest (Asked.asked now next first c.in_ok-ask.field-0 yes a);
+          (Asked.each_below (length now) known scope (exprs_of (map expr_view (drop (i + 1) xs))) (drop (i + 1) ps) (scope_later (length s) (length now) scope low c.requires.scope) (All-drop (λ q. q < length now) (i + 1) ps places)) c.loop-i.invariant.rest (Asked.asked now next first c.in_ok-ask.field-0 yes a);
     }
 
 pub ask_each-returns-clause-answers : goal.ask_each-returns-clause-answers
@@ -293,7 +293,7 @@ ask_fields-loop-i-preserved t c =
       count = omega arith;
       kept = c.in_ok-ask_field.ensures.kept ∙ c.loop-i.invariant.kept;
       rest = Asked.less_left s now next whole (FieldsHaveAt known scope (fields_of (map field_view (drop i xs))) (drop i ps)) first left same
-      (Asked.fields_below (length now) known scope (fields_of (map field_view (drop (i + 1) xs))) (drop (i + 1) ps) (scope_later (length s) (length now) scope low c.requires.scope) (All-drop (λ q. q < length now) (i + 1) ps places)) c.loop-i.invariant.rest (Asked.asked now next first c.in_ok-ask_field.field-0 yes a);
+          (Asked.fields_below (length now) known scope (fields_of (map field_view (drop (i + 1) xs))) (drop (i + 1) ps) (scope_later (length s) (length now) scope low c.requires.scope) (All-drop (λ q. q < length now) (i + 1) ps places)) c.loop-i.invariant.rest (Asked.asked now next first c.in_ok-ask_field.field-0 yes a);
     }
 
 pub ask_fields-returns-clause-answers : goal.ask_fields-returns-clause-answers
@@ -336,7 +336,6 @@ ask-returns-then-not-branch-4-clause-answers t c =
     subst (λ z. Refuses s (HasAt known scope z w)) is
     (Asked.pair_answers known scope w s c.requires.inside c.requires.scope s2 s2 p q d e o false (first_refuses s2 s2 s2 (λ σ. σ w ≡ PairType (σ p) (σ q)) (λ σ. HasAt known scope d p σ × HasAt known scope e q σ) (Asked.refused s2 s3 (λ σ. σ w ≡ PairType (σ p) (σ q)) c.in_ok-ask_form-in-Pair.field-0 no form)))
 
-
 pub ask-returns-then-not-branch-5-clause-answers : goal.ask-returns-then-not-branch-5-clause-answers
 ask-returns-then-not-branch-5-clause-answers t c =
     let known = known_of c.args.names.now in
@@ -367,7 +366,6 @@ ask-returns-then-not-branch-5-clause-answers t c =
     subst (λ z. Refuses s (HasAt known scope z w)) is
     (Asked.pair_answers known scope w s c.requires.inside c.requires.scope s2 s3 p q d e o false
     (Asked.two_no_first known scope s2 below (λ σ. σ w ≡ PairType (σ p) (σ q)) p q d e l m s3 (Asked.asked s2 s3 _ c.in_ok-ask_form-in-Pair.field-0 yes form) (Asked.refused s3 s4 _ c.in_ok-ask-in-Pair.field-0 no first)))
-
 
 pub ask-returns-else-not-branch-5-clause-answers : goal.ask-returns-else-not-branch-5-clause-answers
 ask-returns-else-not-branch-5-clause-answers t c =
@@ -406,7 +404,6 @@ ask-returns-else-not-branch-5-clause-answers t c =
     (subst (λ z. Answers s4 s5 (HasAt known z e q) answer) c.in_ok-ask-in-Pair.ensures.kept second))))
     c.ask-in-Pair-2.ensures.answers
 
-
 pub ask-ask-requires-in-Pair-2 : goal.ask-ask-requires-in-Pair-2
 ask-ask-requires-in-Pair-2 t c =
     let known = known_of c.args.names.now in
@@ -424,7 +421,6 @@ ask-ask-requires-in-Pair-2 t c =
     let more : length s2 ≤ length s3 = c.in_ok-ask_form-in-Pair.ensures.count in
     let last : length s3 ≤ length s4 = c.in_ok-ask-in-Pair.ensures.count in
     (first_of (search rules, omega (arith, c.decreases), search (rules, the_lemmas, c.decreases), grind (arith, common_steps, c.decreases)), (omega arith, scope_kept (length s) (length s4) scope (scope_of c.ask-in-Pair.new.locals) (omega arith) c.in_ok-ask-in-Pair.ensures.kept c.requires.scope))
-
 
 pub ask-returns-then-not-branch-6-clause-answers : goal.ask-returns-then-not-branch-6-clause-answers
 ask-returns-then-not-branch-6-clause-answers t c =
@@ -459,7 +455,6 @@ ask-returns-then-not-branch-6-clause-answers t c =
     let no : c.in_ok-ask_form-in-Triple.field-0 ≡ false = search rules in
     subst (λ z. Refuses s (HasAt known scope z w)) is
     (Asked.triple_answers known scope w s c.requires.inside c.requires.scope s3 s3 p q r d e f o false (first_refuses s3 s3 s3 (λ σ. σ w ≡ TripleType (σ p) (σ q) (σ r)) (λ σ. HasAt known scope d p σ × (HasAt known scope e q σ × HasAt known scope f r σ)) (Asked.refused s3 s4 (λ σ. σ w ≡ TripleType (σ p) (σ q) (σ r)) c.in_ok-ask_form-in-Triple.field-0 no form)))
-
 
 pub ask-returns-then-not-branch-7-clause-answers : goal.ask-returns-then-not-branch-7-clause-answers
 ask-returns-then-not-branch-7-clause-answers t c =
@@ -498,7 +493,6 @@ ask-returns-then-not-branch-7-clause-answers t c =
     subst (λ z. Refuses s (HasAt known scope z w)) is
     (Asked.triple_answers known scope w s c.requires.inside c.requires.scope s3 s4 p q r d e f o false
     (Asked.three_no_first known scope s3 below (λ σ. σ w ≡ TripleType (σ p) (σ q) (σ r)) p q d e l m s4 (HasAt known scope f r) (last (length s3) (omega arith)) (Asked.asked s3 s4 _ c.in_ok-ask_form-in-Triple.field-0 yes form) (Asked.refused s4 s5 _ c.in_ok-ask-in-Triple.field-0 no first)))
-
 
 pub ask-returns-then-not-branch-8-clause-answers : goal.ask-returns-then-not-branch-8-clause-answers
 ask-returns-then-not-branch-8-clause-answers t c =
@@ -542,7 +536,6 @@ ask-returns-then-not-branch-8-clause-answers t c =
     (Asked.triple_answers known scope w s c.requires.inside c.requires.scope s3 s5 p q r d e f o false
     (Asked.three_no_second known scope s3 below (λ σ. σ w ≡ TripleType (σ p) (σ q) (σ r)) p q d e l m s4 s5 (HasAt known scope f r) (last (length s3) (omega arith)) (last (length s4) grown) (Asked.asked s3 s4 _ c.in_ok-ask_form-in-Triple.field-0 yes form) (Asked.asked s4 s5 _ c.in_ok-ask-in-Triple.field-0 found first)
     (Asked.refused s5 s6 _ c.in_ok-ask-in-Triple-2.field-0 no (subst (λ z. Answers s5 s6 (HasAt known z e q) c.in_ok-ask-in-Triple-2.field-0) c.in_ok-ask-in-Triple.ensures.kept second_seen))))
-
 
 pub ask-returns-else-not-branch-8-clause-answers : goal.ask-returns-else-not-branch-8-clause-answers
 ask-returns-else-not-branch-8-clause-answers t c =
@@ -592,7 +585,6 @@ ask-returns-else-not-branch-8-clause-answers t c =
     (subst (λ z. Answers s6 s7 (HasAt known z f r) answer) (c.in_ok-ask-in-Triple-2.ensures.kept ∙ c.in_ok-ask-in-Triple.ensures.kept) third))))
     c.ask-in-Triple-3.ensures.answers
 
-
 pub ask-ask-requires-in-Triple-2 : goal.ask-ask-requires-in-Triple-2
 ask-ask-requires-in-Triple-2 t c =
     let known = known_of c.args.names.now in
@@ -614,7 +606,6 @@ ask-ask-requires-in-Triple-2 t c =
     let more : length s3 ≤ length s4 = c.in_ok-ask_form-in-Triple.ensures.count in
     let then : length s4 ≤ length s5 = c.in_ok-ask-in-Triple.ensures.count in
     (first_of (search rules, omega (arith, c.decreases), search (rules, the_lemmas, c.decreases), grind (arith, common_steps, c.decreases)), (omega arith, scope_kept (length s) (length s5) scope (scope_of c.ask-in-Triple.new.locals) (omega arith) c.in_ok-ask-in-Triple.ensures.kept c.requires.scope))
-
 
 pub ask-ask-requires-in-Triple-3 : goal.ask-ask-requires-in-Triple-3
 ask-ask-requires-in-Triple-3 t c =
@@ -640,7 +631,6 @@ ask-ask-requires-in-Triple-3 t c =
     let last : length s5 ≤ length s6 = c.in_ok-ask-in-Triple-2.ensures.count in
     (first_of (search rules, omega (arith, c.decreases), search (rules, the_lemmas, c.decreases), grind (arith, common_steps, c.decreases)), (omega arith, scope_kept (length s) (length s6) scope (scope_of c.ask-in-Triple-2.new.locals) (omega arith) (c.in_ok-ask-in-Triple-2.ensures.kept ∙ c.in_ok-ask-in-Triple.ensures.kept) c.requires.scope))
 
-
 pub ask-returns-then-not-branch-3-clause-answers : goal.ask-returns-then-not-branch-3-clause-answers
 ask-returns-then-not-branch-3-clause-answers t c =
     let known = known_of c.args.names.now in
@@ -661,7 +651,6 @@ ask-returns-then-not-branch-3-clause-answers t c =
     subst (λ z. Refuses s (HasAt known scope z w)) is
     (Asked.operation_answers known scope w s c.requires.inside c.requires.scope s1 op d e false
     (Asked.two_no_first known scope s c.requires.scope (λ σ. σ w ≡ operand_type op) w w d e c.requires.inside c.requires.inside s1 (Asked.asked s s1 _ c.in_ok-ask_form-in-Binary.field-0 yes form) (Asked.refused s1 s2 _ c.in_ok-ask-in-Binary.field-0 no first)))
-
 
 pub ask-returns-else-not-branch-3-clause-answers : goal.ask-returns-else-not-branch-3-clause-answers
 ask-returns-else-not-branch-3-clause-answers t c =
@@ -690,7 +679,6 @@ ask-returns-else-not-branch-3-clause-answers t c =
     (subst (λ z. Answers s2 s3 (HasAt known z e w) answer) c.in_ok-ask-in-Binary.ensures.kept second))))
     c.ask-in-Binary-2.ensures.answers
 
-
 pub ask-ask-requires-in-Binary-2 : goal.ask-ask-requires-in-Binary-2
 ask-ask-requires-in-Binary-2 t c =
     let known = known_of c.args.names.now in
@@ -703,7 +691,6 @@ ask-ask-requires-in-Binary-2 t c =
     let high : length s1 ≤ length s2 = c.in_ok-ask-in-Binary.ensures.count in
     let at : w < length s = c.requires.inside in
     (first_of (search rules, omega (arith, c.decreases), search (rules, the_lemmas, c.decreases), grind (arith, common_steps, c.decreases)), (omega arith, scope_kept (length s) (length s2) scope (scope_of c.ask-in-Binary.new.locals) (omega arith) c.in_ok-ask-in-Binary.ensures.kept c.requires.scope))
-
 
 pub ask-returns-then-not-branch-clause-answers : goal.ask-returns-then-not-branch-clause-answers
 ask-returns-then-not-branch-clause-answers t c =
@@ -729,7 +716,6 @@ ask-returns-then-not-branch-clause-answers t c =
     subst (λ z. Refuses s (HasAt known scope z w)) is
     (Asked.call_answers known scope w s c.requires.inside c.requires.scope s1 s2 s2 ps v n f es c.in_ok-places-in-Apply.ensures.inside (Asked.each_count c.in-Apply.arguments.items) opens makes false
     (first_refuses s2 s2 s2 (HasAt known scope f v) (EachHasAt known scope es ps) (Asked.refused s2 s3 _ c.in_ok-ask-in-Apply.field-0 no first)))
-
 
 pub ask-returns-else-not-branch-clause-answers : goal.ask-returns-else-not-branch-clause-answers
 ask-returns-else-not-branch-clause-answers t c =
@@ -764,7 +750,6 @@ ask-returns-else-not-branch-clause-answers t c =
     (then_answers s2 s3 c.ask_each.new.store (HasAt known scope f v) (EachHasAt known scope es ps) (Asked.asked s2 s3 _ c.in_ok-ask-in-Apply.field-0 yes first) (Asked.each_below (length s2) known scope es ps below places) answer b)))
     c.ask_each.ensures.answers
 
-
 pub ask-ask_each-requires : goal.ask-ask_each-requires
 ask-ask_each-requires t c =
     let known = known_of c.args.names.now in
@@ -783,4 +768,3 @@ ask-ask_each-requires t c =
     let places : All (λ p. p < length s3) ps = All-weaker (λ p. p < length s1) (λ p. p < length s3) (λ p h. omega arith) ps c.in_ok-places-in-Apply.ensures.inside in
     let counted : c.len.result ≡ n = search rules in
     (first_of (search rules, omega (arith, c.decreases), search (rules, the_lemmas, c.decreases), grind (arith, common_steps, c.decreases)), (ap length is ∙ (c.in_ok-places-in-Apply.ensures.all ∙ counted), (subst (All (λ p. p < length s3)) (sym is) places, scope_kept (length s) (length s3) scope (scope_of c.ask.new.locals) (omega arith) c.in_ok-ask-in-Apply.ensures.kept c.requires.scope)))
-

@@ -23,6 +23,6 @@ loop-i-preserved c =
       count = omega arith;
       inside = c.in_ok-function.ensures.inside;
       makes = longer old mid new ps j c.loop-i.function c.in_ok-function.function p c.args.wanted split
-      (subst (λ i. Makes old mid (λ σ. σ c.loop-i.function ≡ taking (map σ (drop i ps)) (σ c.args.wanted))) (sym up) c.loop-i.invariant.makes)
-      (subst (λ (qs : List ℕ). Makes mid new (λ σ. σ c.in_ok-function.function ≡ build Function (map σ qs))) is c.in_ok-function.ensures.makes);
+          (subst (λ i. Makes old mid (λ σ. σ c.loop-i.function ≡ taking (map σ (drop i ps)) (σ c.args.wanted))) (sym up) c.loop-i.invariant.makes)
+          (subst (λ (qs : List ℕ). Makes mid new (λ σ. σ c.in_ok-function.function ≡ build Function (map σ qs))) is c.in_ok-function.ensures.makes);
     }
