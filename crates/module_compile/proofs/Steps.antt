@@ -45,7 +45,3 @@ no_types ts m items t h never p b = never (subst (AreTyped (codes "Main")) (item
 -- nor those whose items are no program
 pub no_link : (ts : List Token) (m : Module) (items : List Item) → IsTree ts m → IsModule m items → ((p : Project) → IsProgram (codes "Main") items p → ⊥) → (p : Project) → IsProgramOf ts p → ⊥
 no_link ts m items t h never p b = never p (subst (λ is. IsProgram (codes "Main") is p) (items_are ts m items p t h b) b.linked)
-
--- each item has a name of its own
-pub items_distinct : (m : Module) (items : List Item) → IsModule m items → are_distinct (map item_name items) ≡ true
-items_distinct m items h = ap are_distinct (module_names_same m items h) ∙ h.distinct

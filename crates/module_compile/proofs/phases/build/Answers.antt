@@ -10,7 +10,7 @@ use Rattle.program_laws.specs.Checked.{AreTyped}
 use Rattle.program_laws.specs.View.{item_view}
 use Rattle.module_items.specs.Items.{IsModule}
 use Rattle.text_laws.proofs.Few.{items_few_of}
-use Rattle.module_compile.proofs.Steps.{IsTree, no_tree, no_items, no_types, no_link, items_distinct}
+use Rattle.module_compile.proofs.Steps.{IsTree, no_tree, no_items, no_types, no_link}
 use Rattle.module_compile.proofs.phases.build.Goals as goal
 
 pub returns-in-Err-NotAccepted : goal.returns-in-Err-NotAccepted
@@ -20,11 +20,6 @@ pub returns-in_default : goal.returns-in_default
 returns-in_default c =
     let tree : IsTree (map token_view c.args.tokens.now) (module_view c.in-Ok.tree) = record { spelled = c.in-Ok.ensures.tree; shaped = c.in-Ok.ensures.shaped; within = c.in-Ok.ensures.within } in
     no_items (map token_view c.args.tokens.now) (module_view c.in-Ok.tree) tree ((c.in_ok-items.ensures).none c.in_default.is)
-
-pub are_typed-requires : goal.are_typed-requires
-are_typed-requires c =
-    let is : IsModule (module_view c.in-Ok.tree) (map item_view c.in-Some.items.items) = subst (λ r. IfSome r (λ items. IsModule (module_view c.in-Ok.tree) (map item_view items.items))) c.in-Some.is (c.in_ok-items.ensures).some in
-    subst (λ items. are_distinct (map item_name (map item_view items)) ≡ true) (sym c.deref.ensures.value) (items_distinct (module_view c.in-Ok.tree) (map item_view c.in-Some.items.items) is)
 
 pub returns-then-not-branch : goal.returns-then-not-branch
 returns-then-not-branch c =
