@@ -111,7 +111,7 @@ mutual
       let k = resolved_makes a s r.1 r.4 in
       let l = all_make es s r.2 r.5 in
       let parts : made_in r.0 + made_in r.1 + made_in_all r.2 ≤ length (expr_words (Apply f a es)) =
-          two_parts (expr_words f ++ expr_words a) (exprs_words es) (made_in r.0 + made_in r.1) (made_in_all r.2) (two_parts (expr_words f) (expr_words a) (made_in r.0) (made_in r.1) h k) l in
+      two_parts (expr_words f ++ expr_words a) (exprs_words es) (made_in r.0 + made_in r.1) (made_in_all r.2) (two_parts (expr_words f) (expr_words a) (made_in r.0) (made_in r.1) h k) l in
       subst (λ d. FewFor d (expr_words (Apply f a es))) (sym r.6) (omega arith)
   resolved_makes (Chain a op b os) s c r =
       let h = resolved_makes a s r.0 r.4 in
@@ -119,15 +119,15 @@ mutual
       let l = operands_make os s r.3 r.7 in
       let all = chain_makes r.0 ((r.1, r.2) ∷ r.3) r.8.0 r.8.1 in
       let parts : made_in r.0 + made_in r.2 + behind_make r.3 ≤ length (expr_words (Chain a op b os)) =
-          two_parts (expr_words a ++ one kind.Operator op ++ expr_words b) (operands_words os) (made_in r.0 + made_in r.2) (behind_make r.3)
-          (two_parts (expr_words a ++ one kind.Operator op) (expr_words b) (made_in r.0) (made_in r.2) (longer_left (expr_words a) (one kind.Operator op) (made_in r.0) h) k) l in
+      two_parts (expr_words a ++ one kind.Operator op ++ expr_words b) (operands_words os) (made_in r.0 + made_in r.2) (behind_make r.3)
+      (two_parts (expr_words a ++ one kind.Operator op) (expr_words b) (made_in r.0) (made_in r.2) (longer_left (expr_words a) (one kind.Operator op) (made_in r.0) h) k) l in
       subst (λ d. FewFor d (expr_words (Chain a op b os))) (sym r.8.2) (omega arith)
   resolved_makes (Lambda p ps e) s c r =
       let h = resolved_makes e (with_locals (bound_names (p ∷ ps)) s) r.0 r.2 in
       let k = functions_make (p ∷ ps) r.0 in
       let words : length (patterns_words (p ∷ ps)) + made_in r.0 ≤ length (expr_words (Lambda p ps e)) =
-          two_parts (one kind.Backslash (codes "\\") ++ pattern_words p ++ patterns_words ps ++ arrow) (expr_words e) (length (patterns_words (p ∷ ps))) (made_in r.0)
-          (longer_left (one kind.Backslash (codes "\\") ++ pattern_words p ++ patterns_words ps) arrow (length (patterns_words (p ∷ ps))) (patterns_long p ps)) h in
+      two_parts (one kind.Backslash (codes "\\") ++ pattern_words p ++ patterns_words ps ++ arrow) (expr_words e) (length (patterns_words (p ∷ ps))) (made_in r.0)
+      (longer_left (one kind.Backslash (codes "\\") ++ pattern_words p ++ patterns_words ps) arrow (length (patterns_words (p ∷ ps))) (patterns_long p ps)) h in
       subst (λ d. FewFor d (expr_words (Lambda p ps e))) (sym r.3) (omega arith)
 
   all_make : (es : Exprs) (s : Scope) (cs : canon.Exprs) → ResolvesAll es s cs → made_in_all cs ≤ length (exprs_words es)
@@ -168,8 +168,8 @@ definition_makes all x ps e c d =
     let h = resolved_makes e (with_locals (bound_names ps) (module_scope all)) d.body d.resolved in
     let k = functions_make ps d.body in
     let words : length (patterns_words ps) + made_in d.body ≤ length (declaration_words (Definition x ps e)) =
-        two_parts (lower x ++ patterns_words ps ++ equals) (expr_words e) (length (patterns_words ps)) (made_in d.body)
-        (longer_left (lower x ++ patterns_words ps) equals (length (patterns_words ps)) (longer_right (lower x) (patterns_words ps) (length (patterns_words ps)) (omega arith))) h in
+    two_parts (lower x ++ patterns_words ps ++ equals) (expr_words e) (length (patterns_words ps)) (made_in d.body)
+    (longer_left (lower x ++ patterns_words ps) equals (length (patterns_words ps)) (longer_right (lower x) (patterns_words ps) (length (patterns_words ps)) (omega arith))) h in
     subst (λ b. made_in b ≤ length (declaration_words (Definition x ps e))) (sym d.is) (omega arith)
 
 items_make : {all ds : List Declaration} {items : List Item} → AreItems all ds items → (x : List ℕ) (t : ElmType) (c : canon.Expr) → Contains items (ValueItem x t c) → made_in c ≤ words_in ds

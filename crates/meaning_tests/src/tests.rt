@@ -201,7 +201,11 @@ fn endless_recursion_runs_out_of_fuel(rt: HostRuntime) -> Result<(), Fail> {
 fn tuples_records_and_lambdas_run(rt: HostRuntime) -> Result<(), Fail> {
     let alloc = rt.alloc();
     let cases: [(&str, &str, i64); 8] = [
-        ("add : Int -> Int -> Int\nadd = \\x -> \\y -> x + y\n", "(add 1 2)", 3),
+        (
+            "add : Int -> Int -> Int\nadd = \\x -> \\y -> x + y\n",
+            "(add 1 2)",
+            3,
+        ),
         ("k : Int -> () -> Int\nk x _ = x\n", "(k 7 ())", 7),
         (
             "apply : (Int -> ( Int, () )) -> Int\napply f = (\\_ -> 4) (f 1)\n",
@@ -218,9 +222,17 @@ fn tuples_records_and_lambdas_run(rt: HostRuntime) -> Result<(), Fail> {
             "(compose (\\x -> x + 1) (\\y -> y + y) 5)",
             11,
         ),
-        ("three : ( Int, Int, Int ) -> Int\nthree _ = 3\n", "(three ( 1, 2, 3 ))", 3),
+        (
+            "three : ( Int, Int, Int ) -> Int\nthree _ = 3\n",
+            "(three ( 1, 2, 3 ))",
+            3,
+        ),
         ("", "((\\p -> p 1 2) (\\x y -> x + y))", 3),
-        ("", "((\\f _ -> f ()) (\\_ -> 6) { a = {}, b = ( (), 1 ) })", 6),
+        (
+            "",
+            "((\\f _ -> f ()) (\\_ -> 6) { a = {}, b = ( (), 1 ) })",
+            6,
+        ),
     ];
     for (definitions, argument, number) in cases {
         let wanted = sends(alloc, number)?;

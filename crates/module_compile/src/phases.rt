@@ -9,10 +9,10 @@ ghost use Rattle.module_compile.specs.View.{made_view, HasExactLiterals};
 use elm_canon::tree::Project;
 use elm_lexer::{LexError, Token, tokens};
 use elm_parser::parse_module;
-use token_reader::ParseError;
 use module_items::module_items;
 use program_link::link::link;
 use std::alloc::{AllocError, Global};
+use token_reader::ParseError;
 use type_check::check::are_typed;
 
 /// What a module comes to.

@@ -24,11 +24,7 @@ pub fn are_typed(alloc: Global, items: &[Item]) -> Result<bool, AllocError>
 }
 
 /// Whether each item has its type, where the names have theirs.
-fn have_types<'a>(
-    alloc: Global,
-    names: &Names<'a>,
-    items: &'a [Item],
-) -> Result<bool, AllocError>
+fn have_types<'a>(alloc: Global, names: &Names<'a>, items: &'a [Item]) -> Result<bool, AllocError>
     ensures yes { (context : Context) → Agrees (known_of names.now) context → IfOk result (λ typed. typed ≡ true → HaveTheirTypes context (map item_view items.now)) }
     ensures refused { (context : Context) → Agrees (known_of names.now) context → IfOk result (λ typed. typed ≡ false → HaveTheirTypes context (map item_view items.now) → ⊥) }
 {

@@ -100,11 +100,7 @@ fn insert_known<'a>(names: &mut Names<'a>, known: &'a Known) -> Result<(), Alloc
 }
 
 /// Adds an item before those behind it.
-fn insert_item<'a>(
-    names: &mut Names<'a>,
-    core: &'a Core,
-    item: &'a Item,
-) -> Result<(), AllocError>
+fn insert_item<'a>(names: &mut Names<'a>, core: &'a Core, item: &'a Item) -> Result<(), AllocError>
     requires { IsCore core.now }
     ensures { OnOk result ((behind : List PlainItem) → ((m x : List ℕ) → known_of names.old m x ≡ types_of behind m x) → (m x : List ℕ) → known_of names.new m x ≡ types_of (item_view item.now ∷ behind) m x) }
 {

@@ -74,10 +74,7 @@ fn stage(alloc: Global, model: u32, msg: u32) -> Result<Type, AllocError>
     ensures { IfOk result (λ t. type_view t ≡ plain.PairType (plain.Variable model) (plain.command_type (plain.Variable msg))) }
 {
     let model = Box::new(alloc, Type::Variable(model))?;
-    Ok(Type::Pair(
-        model,
-        Box::new(alloc, command(alloc, msg)?)?,
-    ))
+    Ok(Type::Pair(model, Box::new(alloc, command(alloc, msg)?)?))
 }
 
 /// The type of `Platform.worker`: its variables are those of the flags, the model and the messages.

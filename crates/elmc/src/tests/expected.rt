@@ -77,7 +77,8 @@ const _main={"name":"Main","program":Main$main,"flags":_dAny(),"ins":{},"outs":{
 "##;
 
 /// The fixed text that an output ends with.
-pub const TAIL: &[u8] = br##"const _flat=(b,o)=>{if(b["$"]===0){o.push(b);}else{for(const x of _array(b["a0"])){_flat(x,o);}}return o;};
+pub const TAIL: &[u8] =
+    br##"const _flat=(b,o)=>{if(b["$"]===0){o.push(b);}else{for(const x of _array(b["a0"])){_flat(x,o);}}return o;};
 const _init=o=>{
 const f=_main["flags"](o?o["flags"]:null);
 if(f===undefined){throw new Error("flags refused");}

@@ -92,7 +92,10 @@ fn builds_with_each_header(rt: HostRuntime) -> Result<(), Fail> {
         text.push_str(IDLE)?;
         let ran = run(&rt, alloc, &MAKE, text.as_bytes(), NONE_FAILS)?;
         assert_eq!(rt; ran.status, 0, "{header}");
-        assert!(rt; ran.files.get("out.js") == Some(want.as_slice()), "{header}");
+        assert!(rt;
+            ran.files.get("out.js") == Some(want.as_slice()),
+            "{header}"
+        );
     }
     Ok(())
 }
@@ -112,8 +115,10 @@ fn builds_tuples_records_and_lambdas(rt: HostRuntime) -> Result<(), Fail> {
 #[test]
 fn emits_only_what_main_uses(rt: HostRuntime) -> Result<(), Fail> {
     let alloc = rt.alloc();
-    let text = "f : () -> Program () () ()\nf x = f x\nidle : Cmd ()\nidle = Cmd.none\nmain : Program () () ()\nmain = f ()\n";
-    let lines = "const Main$f=($x=>{return Main$f($x);});\nconst Main$main=Main$f(0);\nconst _main={\"name\":\"Main\",\"program\":Main$main,\"flags\":_dAny(),\"ins\":{},\"outs\":{}};\n";
+    let text =
+        "f : () -> Program () () ()\nf x = f x\nidle : Cmd ()\nidle = Cmd.none\nmain : Program () () ()\nmain = f ()\n";
+    let lines =
+        "const Main$f=($x=>{return Main$f($x);});\nconst Main$main=Main$f(0);\nconst _main={\"name\":\"Main\",\"program\":Main$main,\"flags\":_dAny(),\"ins\":{},\"outs\":{}};\n";
     let want = output_of(alloc, lines.as_bytes())?;
     let ran = run(&rt, alloc, &MAKE, text.as_bytes(), NONE_FAILS)?;
     assert_eq!(rt; ran.status, 0);

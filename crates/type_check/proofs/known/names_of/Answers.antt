@@ -26,5 +26,5 @@ one_before items i x e p l =
 pub loop-i-preserved : goal.loop-i-preserved
 loop-i-preserved c =
     let one : c.index-items-i.result ∷ drop c.loop-i.i c.args.items.now ≡ drop (c.loop-i.i - 1) c.args.items.now =
-        one_before c.args.items.now c.loop-i.i c.index-items-i.result c.index-items-i.is (omega arith) (omega arith) in
+    one_before c.args.items.now c.loop-i.i c.index-items-i.result c.index-items-i.is (omega arith) (omega arith) in
     λ m x. c.in_ok-insert_item.ensures (map item_view (drop c.loop-i.i c.args.items.now)) c.loop-i.invariant m x ∙ ap (λ (is : List Item). types_of (map item_view is) m x) one
