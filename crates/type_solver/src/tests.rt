@@ -41,6 +41,24 @@ fn wanted(alloc: Global, second: Type) -> Result<Type, AllocError> {
     Ok(Type::Function(Box::new(alloc, int(alloc)?)?, Box::new(alloc, pair)?))
 }
 
+/// With `f` of the module `home` of the type `same` alone: whether `f` is found, whether another name is, and whether the expression has the
+/// types that `wanted` makes of Int and of `()`.
+fn answers<'a>(
+    alloc: Global,
+    home: &'a Units,
+    f: &'a Units,
+    same: &'a Type,
+    expr: &'a Expr,
+) -> Result<[bool; 4], AllocError> {
+    let mut names = Names::new(alloc);
+    names.insert(home, f, same)?;
+    let found = names.get(home, f).is_some();
+    let other = names.get(home, home).is_some();
+    let of_int = has_type(alloc, &names, expr, &wanted(alloc, int(alloc)?)?)?;
+    let of_unit = has_type(alloc, &names, expr, &wanted(alloc, Type::Unit)?)?;
+    Ok([found, other, of_int, of_unit])
+}
+
 #[test]
 fn names_have_instances(rt: HostRuntime) -> Result<(), Fail> {
     let alloc = rt.alloc();
@@ -51,11 +69,7 @@ fn names_have_instances(rt: HostRuntime) -> Result<(), Fail> {
         Box::new(alloc, Type::Variable(0))?,
         Box::new(alloc, Type::Variable(0))?,
     );
-    let mut names = Names::new(alloc);
-    names.insert(&home, &name, &same)?;
-    assert!(rt; names.get(&home, &name).is_some());
-    assert!(rt; names.get(&home, &home).is_none());
-    assert!(rt; has_type(alloc, &names, &expr, &wanted(alloc, int(alloc)?)?)?);
-    assert!(rt; !has_type(alloc, &names, &expr, &wanted(alloc, Type::Unit)?)?);
+    let answers = answers(alloc, &home, &name, &same, &expr)?;
+    assert_eq!(rt; answers, [true, false, true, false]);
     Ok(())
 }
