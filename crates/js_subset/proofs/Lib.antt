@@ -1,0 +1,13 @@
+pub mod NameReader
+pub mod NameFronts
+pub mod Automaton
+pub mod Fronts
+pub mod Steps
+pub mod StepFits
+pub mod Plugs
+pub mod Viable
+pub mod Complete
+pub mod CompleteTree
+pub mod Exact
+pub mod Places
+pub mod Examples
