@@ -56,7 +56,7 @@ pub record Front : Type 0 where
   pub main : Js
   pub flags : Js
 
--- Where an expression stands, from the inside: the argument of a call; the first in a bracket, or behind an operator, ? or : in it; a field's
+-- Where an expression stands, from the inside: the argument of a call; the first in a bracket, or behind an operator, a question mark or a colon in it; a field's
 -- value; in a list; the argument of a function of the fixed text; in a statement; in a line; in the object of `_main`.
 -- Where a block stands: the body of a function; of one called at once; behind if and behind else; in a loop.
 mutual

@@ -25,9 +25,6 @@ at_name x (LetAt before b) f h p q = let w = and_true (block_fits b) (before_fit
 at_name x (AssignAt before b) f h p q = let w = and_true (block_fits b) (before_fits before) h in shorter f (codes "=") (at_place (AssignIn before x b) (f ++ codes "=") (three (block_fits b) (before_fits before) (is_name x) w.0 w.1 p) (rw q refl))
 at_name x (LineAt before) f h p q = shorter f (codes "=") (at_place (LineIn before x) (f ++ codes "=") (two (lines_fit before) (is_name x) h p) (rw q refl))
 
-letter_a : Name
-letter_a = Local (97 ∷ [])
-
 before_name : (a : NameAt) (f : List ℕ) → name_at_fits a ≡ true → f ≡ name_front a → Begins f
 before_name a f h q = shorter f (codes "$a") (at_name (Local (97 ∷ [])) a (f ++ codes "$a") h refl (rw q refl))
 
