@@ -7,10 +7,12 @@ use Rattle.elm_base.specs.declared.fault.Code.TheVariants.{BadOutput, EntryNotFo
 use Rattle.elm_files.specs.Tree.{Tree}
 use Rattle.elm_canon.specs.Tree.{Project}
 use Rattle.elm_canon.specs.Run.{SourceRun}
+use Rattle.js_tree.specs.Tree.{Program}
 use Rattle.js_tree.specs.Text.{JsText}
-use Rattle.js_tree.specs.Subset.{in_subset}
+use Rattle.js_tree.specs.Subset.{is_program_spelled, is_program_bound, in_subset}
 use Rattle.js_tree.specs.Run.{JsRun}
-use Rattle.js_tree.proofs.Reading.{text_of_one_program}
+use Rattle.js_tree.proofs.NameFronts.{and_true}
+use Rattle.js_tree.proofs.Exact.{one_program}
 use Rattle.js_emit.specs.Emit.{Emit}
 use Rattle.module_compile.specs.Made.{Result, Good, NotYet, Made, too_long}
 use Rattle.module_compile.proofs.Accepted.{for_good, accepted_subset, accepted_ruled, accepted_meaning}
@@ -35,11 +37,15 @@ good_within : (text : List ℕ) (p : Project) (b : Bool) → Made (if b then Som
 good_within text p true m = m
 good_within text p false m = never_good p (same_made None (Good p) NotYet m too_long)
 
+-- what is in the subset can be spelled
+spelled_in : (p : Program) → in_subset p ≡ true → is_program_spelled p ≡ true
+spelled_in p h = (and_true (is_program_spelled p) (is_program_bound p) h).0
+
 -- the text of a program's JavaScript is that of no other program
 one_text : (text : Option (List ℕ)) (p : Project) (bytes : List ℕ) → Made text (Good p) → JsText (Emit p) bytes → IsTextOfOne bytes (Emit p)
 one_text text p bytes m t =
     let admitted : in_subset (Emit p) ≡ true = for_good (λ q. in_subset (Emit q) ≡ true) accepted_subset text p m in
-    record { admitted = admitted; spelled = t; one = λ other h k. text_of_one_program bytes other (Emit p) h admitted k t }
+    record { admitted = admitted; spelled = t; one = λ other h k. one_program bytes other (Emit p) (spelled_in other h) (spelled_in (Emit p) admitted) k t }
 
 -- what holds where there is no input holds for all inputs
 for_inputs : (P : List (List ℕ × Wire) → Type 0) → P [] → (inputs : List (List ℕ × Wire)) → AreInputs inputs → P inputs

@@ -17,7 +17,7 @@ use elm_base::fault::{Code, Fault};
 use elm_base::text::Text;
 use elm_files::{FileError, Files, Got};
 use js_emit::emit::emit;
-use js_printer::print_program;
+use js_printer::print;
 use module_compile::{Made, compile};
 use std::alloc::{AllocError, AllocFailed, Global};
 use std::sync::Wait;
@@ -190,8 +190,8 @@ fn program_text(alloc: Global, text: &[u8]) -> Result<Option<Vec<u8>>, AllocErro
 {
     match compile(alloc, text)? {
         Made::Good(project) => {
-            let program = emit(alloc, &project)?;
-            Ok(Some(print_program(alloc, &program)?))
+            let trees = emit(alloc, &project)?;
+            Ok(Some(print(alloc, &trees)?))
         }
         Made::NotYet => Ok(None),
     }

@@ -7,7 +7,7 @@ use Rattle.runs.proofs.Spends.{spends_none}
 use Rattle.elm_canon.specs.Tree.{Ref, same_ref, Pattern, Named, Anything, Expr, Defs, NoDef, MoreDef}
 use Rattle.elm_canon.specs.Tree as source
 use Rattle.elm_canon.specs.Values.{Value, CloV, Env, Nil, Bind, BindGroup, member, lookup, bind_pattern}
-use Rattle.js_tree.specs.Tree.{Stmts}
+use Rattle.js_tree.specs.Tree.{Js, Lines, as_statements}
 use Rattle.js_tree.specs.Values.{JVal, JCloV, JEnv, JBind, j_find}
 use Rattle.js_emit.specs.Emit.{js_name, js_parameter, behind_parameter, emit, emit_defs}
 use Rattle.js_emit.specs.Scoped.{among, with_parameter, is_scoped, def_names, with_all, defs_scoped}
@@ -62,9 +62,9 @@ module _ (outs : List (List ℕ)) where
   DefsBound (MoreDef f p e ds) jenv = (j_find (js_name f) jenv ≡ Val (JCloV jenv (js_parameter 0 p) (emit (behind_parameter 0 p) e))) × DefsBound ds jenv
 
   -- a run that begins with a group's functions binds them, and what comes behind them
-  pub defs_bound : (ds : Defs) (s : Stmts) (jenv : JEnv) → IsBound (emit_defs ds s) jenv → DefsBound ds jenv × IsBound s jenv
-  defs_bound NoDef s jenv bd = (tt, bd)
-  defs_bound (MoreDef f p e ds) s jenv bd = let r = defs_bound ds s jenv bd.1 in ((bd.0, r.0), r.1)
+  pub defs_bound : (ds : Defs) (ls : Lines) (main : Js) (jenv : JEnv) → IsBound (as_statements (emit_defs ds ls) main) jenv → DefsBound ds jenv × IsBound (as_statements ls main) jenv
+  defs_bound NoDef ls main jenv bd = (tt, bd)
+  defs_bound (MoreDef f p e ds) ls main jenv bd = let r = defs_bound ds ls main jenv bd.1 in ((bd.0, r.0), r.1)
 
   -- a member of the group, or else what the rest of the scope finds
   members : (big : List Ref) (whole : Env) (jenv : JEnv) (rest : End Value) (es : Defs) (acc : List Ref) → defs_scoped big es ≡ true → DefsBound es jenv → (x : Ref) → among x (with_all (def_names es) acc) ≡ true → (among x acc ≡ true → ForFound outs big whole jenv rest (j_find (js_name x) jenv)) → ForFound outs big whole jenv (member x es whole rest) (j_find (js_name x) jenv)

@@ -1,12 +1,12 @@
 -- The example program, computed; and with other types of its port and its flags.
-use Rattle.std.specs.Prelude.{◌≡◌, ℕ, pos, List, [], ◌∷◌, true, codes, refl}
+use Rattle.std.specs.Prelude.{◌≡◌, ℕ, pos, List, [], ◌∷◌, ◌++◌, true, codes, refl}
 use Rattle.std.specs.Fmt.{digits}
 use Rattle.wire_value.specs.Wire.{null, int}
 use Rattle.runs.specs.Trace.{Then, Sent, Ends, Ready, FlagsRefused, NoFuel}
 use Rattle.elm_canon.specs.Tree.{Local, Top, Named, Anything, Expr, Int, Var, Lambda, Apply, UnitOf, Pair, Record, NoExpr, MoreExpr, NoField, MoreField, Payload, IntPayload, UnitPayload, Flags, AnyFlags, IntFlags, Wrapper, EmptyBatch, OutPort, Constant, Given, Project}
 use Rattle.elm_canon.specs.Run.{SourceRun}
 use Rattle.js_tree.specs.Run.{JsRun}
-use Rattle.js_tree.specs.Text.{lines_text}
+use Rattle.js_tree.specs.Text.{lines_text, main_text}
 use Rattle.js_tree.specs.Subset.{in_subset}
 use Rattle.js_emit.specs.Emit.{Emit}
 use Rattle.js_emit.specs.Scoped.{groups_scoped}
@@ -49,7 +49,7 @@ sends_js = refl
 starved : JsRun (Emit (project_of (Int 42))) null [] 2 ≡ Ends NoFuel
 starved = refl
 
-spelled : lines_text (Emit (project_of (Int 42))) (Emit (project_of (Int 42))).body ≡ codes "const Platform$Cmd$none={\"$\":1,\"a0\":{\"$\":0}};\nconst Platform$Sub$none={\"$\":1,\"a0\":{\"$\":0}};\nconst Platform$worker=($$0=>{return {\"$\":0,\"a0\":$$0};});\nconst Main$out=($$0=>{return {\"$\":0,\"a0\":\"out\",\"a1\":_eSame()($$0)};});\nconst Main$main=Platform$worker({\"init\":($$0=>{return {\"$\":0,\"a0\":0,\"a1\":Main$out(42)};}),\"update\":($$1=>{return ($m=>{return {\"$\":0,\"a0\":$m,\"a1\":Platform$Cmd$none};});}),\"subscriptions\":($$2=>{return Platform$Sub$none;})});\nconst _main={\"name\":\"Main\",\"program\":Main$main,\"flags\":_dAny(),\"ins\":{},\"outs\":{\"out\":0}};\n"
+spelled : lines_text (Emit (project_of (Int 42))).lines ++ main_text (Emit (project_of (Int 42))) ≡ codes "const Platform$Cmd$none={\"$\":1,\"a0\":{\"$\":0}};\nconst Platform$Sub$none={\"$\":1,\"a0\":{\"$\":0}};\nconst Platform$worker=($$0=>{return {\"$\":0,\"a0\":$$0};});\nconst Main$out=($$0=>{return {\"$\":0,\"a0\":\"out\",\"a1\":_eSame()($$0)};});\nconst Main$main=Platform$worker({\"init\":($$0=>{return {\"$\":0,\"a0\":0,\"a1\":Main$out(42)};}),\"update\":($$1=>{return ($m=>{return {\"$\":0,\"a0\":$m,\"a1\":Platform$Cmd$none};});}),\"subscriptions\":($$2=>{return Platform$Sub$none;})});\nconst _main={\"name\":\"Main\",\"program\":Main$main,\"flags\":_dAny(),\"ins\":{},\"outs\":{\"out\":0}};\n"
 unfolding digits
 spelled = refl
 

@@ -10,7 +10,7 @@ use Rattle.elm_canon.specs.Tree.{Ref, Defs, NoDef, MoreDef, Known, Wrapper, Empt
 use Rattle.elm_canon.specs.Values.{Value, Env, Nil, Bind, BindGroup}
 use Rattle.elm_canon.specs.Eval.{call_at}
 use Rattle.elm_canon.specs.Run.{name_of, known_value, main_with}
-use Rattle.js_tree.specs.Tree.{Name, Made, Js, JArrow, Stmts, Const}
+use Rattle.js_tree.specs.Tree.{Name, Made, Js, JVar, JArrow, Stmts, Const, Lines, as_statements}
 use Rattle.js_tree.specs.Values.{JVal, JCloV, NoJField, MoreJField, JEnv, JNil, JBind, JBindRun, JHide}
 use Rattle.js_tree.specs.Eval.{j_eval, j_exec, j_block, j_call, if_arrow}
 use Rattle.js_emit.specs.Emit.{js_name, field_name, comes_before, insert_text, out_ports, now, emit, emit_known, emit_defs, emit_groups}
@@ -31,20 +31,24 @@ new_name r scope e = not_true (among r scope) e
 
 -- what the constants declare
 
--- a group's functions, and what follows them
-clear_defs : (ds : Defs) (scope : List Ref) (s : Stmts) → are_fresh (def_names ds) scope ≡ true → IsClear (js_names (with_all (def_names ds) scope)) s → IsClear (js_names scope) (emit_defs ds s)
-clear_defs NoDef scope s fresh rest = rest
-clear_defs (MoreDef f p e ds) scope s fresh rest =
+-- the lines of the groups as statements, which return the program that `main` is
+abbrev pub statements_of : List Group → Ref → Stmts
+statements_of gs main = as_statements (emit_groups gs) (JVar (js_name main))
+
+-- a group's functions, and the lines behind them
+clear_defs : (ds : Defs) (scope : List Ref) (ls : Lines) (main : Js) → are_fresh (def_names ds) scope ≡ true → IsClear (js_names (with_all (def_names ds) scope)) (as_statements ls main) → IsClear (js_names scope) (as_statements (emit_defs ds ls) main)
+clear_defs NoDef scope ls main fresh rest = rest
+clear_defs (MoreDef f p e ds) scope ls main fresh rest =
     let r = both_true (not (among f scope)) (are_fresh (def_names ds) (f ∷ scope)) fresh in
-    (held f scope ∙ new_name f scope r.0, clear_defs ds (f ∷ scope) s r.1 rest)
+    (held f scope ∙ new_name f scope r.0, clear_defs ds (f ∷ scope) ls main r.1 rest)
 
 -- all groups
-clear_groups : (gs : List Group) (main : Ref) (scope : List Ref) → groups_scoped scope gs main ≡ true → IsClear (js_names scope) (emit_groups gs main)
+clear_groups : (gs : List Group) (main : Ref) (scope : List Ref) → groups_scoped scope gs main ≡ true → IsClear (js_names scope) (statements_of gs main)
 clear_groups [] main scope sc = tt
 clear_groups (Functions ds ∷ gs) main scope sc =
     let r = both_true (are_fresh (def_names ds) scope) _ sc in
     let s = both_true (defs_scoped (with_all (def_names ds) scope) ds) (groups_scoped (with_all (def_names ds) scope) gs main) r.1 in
-    clear_defs ds scope (emit_groups gs main) r.0 (clear_groups gs main (with_all (def_names ds) scope) s.1)
+    clear_defs ds scope (emit_groups gs) (JVar (js_name main)) r.0 (clear_groups gs main (with_all (def_names ds) scope) s.1)
 clear_groups (Constant x e ∷ gs) main scope sc =
     let r = both_true (not (among x scope)) _ sc in
     let s = both_true (is_scoped scope e) (groups_scoped (x ∷ scope) gs main) r.1 in
@@ -103,11 +107,11 @@ not_crashed t zero e = absurd (cc)
 not_crashed t (suc c) e = absurd (cc)
 
 -- functions are bound where their run begins
-defs_skipped : (ds : Defs) (scope : List Name) (s : Stmts) → IsClear scope (emit_defs ds s) → (jenv : JEnv) (b m : ℕ) → j_exec (j_call b) (emit_defs ds s) jenv m ≡ j_exec (j_call b) s jenv m
-defs_skipped NoDef scope s clear jenv b m = refl
-defs_skipped (MoreDef f p e ds) scope s clear jenv b m =
-    let rest = emit_defs ds s in
-    ap (λ t. if t then MStuck else j_exec (j_call b) rest jenv m) (not_again (js_name f) scope rest clear.1) ∙ defs_skipped ds (js_name f ∷ scope) s clear.1 jenv b m
+defs_skipped : (ds : Defs) (scope : List Name) (ls : Lines) (main : Js) → IsClear scope (as_statements (emit_defs ds ls) main) → (jenv : JEnv) (b m : ℕ) → j_exec (j_call b) (as_statements (emit_defs ds ls) main) jenv m ≡ j_exec (j_call b) (as_statements ls main) jenv m
+defs_skipped NoDef scope ls main clear jenv b m = refl
+defs_skipped (MoreDef f p e ds) scope ls main clear jenv b m =
+    let rest = as_statements (emit_defs ds ls) main in
+    ap (λ t. if t then MStuck else j_exec (j_call b) rest jenv m) (not_again (js_name f) scope rest clear.1) ∙ defs_skipped ds (js_name f ∷ scope) ls main clear.1 jenv b m
 
 module _ (outs : List (List ℕ)) where
   -- what follows a value
@@ -135,26 +139,26 @@ module _ (outs : List (List ℕ)) where
   known_follows n x (OutPort t) gs jenv ports = gives (JCloV jenv (Made 0) (port_body (name_of x) t)) (for_port (ports (name_of x) (first_port x gs))) spends_none
 
   -- the groups in order
-  groups_follow : (n : ℕ) (gs : List Group) (main : Ref) (scope : List Ref) → groups_scoped scope gs main ≡ true → PortsOut outs gs → (env : Env) (jenv : JEnv) → ForEnv outs scope env jenv → IsBound (emit_groups gs main) jenv → Follows (For outs) n (main_with (call_at n) gs main env) (λ b m. j_exec (j_call b) (emit_groups gs main) jenv m)
+  groups_follow : (n : ℕ) (gs : List Group) (main : Ref) (scope : List Ref) → groups_scoped scope gs main ≡ true → PortsOut outs gs → (env : Env) (jenv : JEnv) → ForEnv outs scope env jenv → IsBound (statements_of gs main) jenv → Follows (For outs) n (main_with (call_at n) gs main env) (λ b m. j_exec (j_call b) (statements_of gs main) jenv m)
   groups_follow n [] main scope sc ports env jenv re bd = looked_up outs n main sc re
   groups_follow n (Functions ds ∷ gs) main scope sc ports env jenv re bd =
       let r = both_true (are_fresh (def_names ds) scope) _ sc in
       let s = both_true (defs_scoped (with_all (def_names ds) scope) ds) (groups_scoped (with_all (def_names ds) scope) gs main) r.1 in
-      let both = defs_bound outs ds (emit_groups gs main) jenv bd in
-      follows_after (spends_same (λ b m. defs_skipped ds (js_names scope) (emit_groups gs main) (clear_groups (Functions ds ∷ gs) main scope sc) jenv b m))
+      let both = defs_bound outs ds (emit_groups gs) (JVar (js_name main)) jenv bd in
+      follows_after (spends_same (λ b m. defs_skipped ds (js_names scope) (emit_groups gs) (JVar (js_name main)) (clear_groups (Functions ds ∷ gs) main scope sc) jenv b m))
       (groups_follow n gs main (with_all (def_names ds) scope) s.1 (later_ports outs (Functions ds) gs ports) (BindGroup ds env) jenv (for_group outs ds s.0 both.0 re) both.1)
   groups_follow n (Constant x e ∷ gs) main scope sc ports env jenv re bd =
       let r = both_true (not (among x scope)) _ sc in
       let s = both_true (is_scoped scope e) (groups_scoped (x ∷ scope) gs main) r.1 in
-      const_follows (λ v. main_with (call_at n) gs main (Bind x v env)) (js_names scope) (js_name x) (now (emit 0 e)) (emit_groups gs main) jenv (clear_groups gs main (x ∷ scope) s.1) bd (follows outs n e 0 scope s.0 env jenv re)
+      const_follows (λ v. main_with (call_at n) gs main (Bind x v env)) (js_names scope) (js_name x) (now (emit 0 e)) (statements_of gs main) jenv (clear_groups gs main (x ∷ scope) s.1) bd (follows outs n e 0 scope s.0 env jenv re)
       (λ v w more rv ex bound. groups_follow n gs main (x ∷ scope) s.1 (later_ports outs (Constant x e) gs ports) (Bind x v env) more (for_bind outs rv re ex) bound)
   groups_follow n (Given x k ∷ gs) main scope sc ports env jenv re bd =
       let r = both_true (not (among x scope)) (groups_scoped (x ∷ scope) gs main) sc in
-      const_follows (λ v. main_with (call_at n) gs main (Bind x v env)) (js_names scope) (js_name x) (emit_known x k) (emit_groups gs main) jenv (clear_groups gs main (x ∷ scope) r.1) bd (known_follows n x k gs jenv ports)
+      const_follows (λ v. main_with (call_at n) gs main (Bind x v env)) (js_names scope) (js_name x) (emit_known x k) (statements_of gs main) jenv (clear_groups gs main (x ∷ scope) r.1) bd (known_follows n x k gs jenv ports)
       (λ v w more rv ex bound. groups_follow n gs main (x ∷ scope) r.1 (later_ports outs (Given x k) gs ports) (Bind x v env) more (for_bind outs rv re ex) bound)
 
   -- the program that `main` is
-  pub main_follows : (n : ℕ) (gs : List Group) (main : Ref) → groups_scoped [] gs main ≡ true → PortsOut outs gs → Follows (For outs) n (main_with (call_at n) gs main Nil) (λ b m. j_block (j_call b) (emit_groups gs main) JNil m)
+  pub main_follows : (n : ℕ) (gs : List Group) (main : Ref) → groups_scoped [] gs main ≡ true → PortsOut outs gs → Follows (For outs) n (main_with (call_at n) gs main Nil) (λ b m. j_block (j_call b) (statements_of gs main) JNil m)
   main_follows n gs main sc ports =
-      let s = emit_groups gs main in
+      let s = statements_of gs main in
       groups_follow n gs main [] sc ports Nil (JBindRun s (JHide s JNil)) (for_nil outs (JBindRun s (JHide s JNil))) (opened s [] (clear_groups gs main [] sc) JNil)

@@ -7,7 +7,6 @@ pub mod Expressions
 pub mod Groups
 pub mod Sends
 pub mod Machines
-pub mod Fields
 pub mod Order
 pub mod Spelling
 pub mod Bound

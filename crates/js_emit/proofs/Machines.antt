@@ -1,5 +1,5 @@
 -- Each step of a program's JavaScript follows the program's step.
-use Rattle.std.proofs.Common.{ℕ, ℤ, pos, List, Bool, true, false, Option, Some, None, nat_eq, refl, ap}
+use Rattle.std.proofs.Common.{ℕ, ℤ, List, Bool, true, false, Option, Some, None, nat_eq, refl, ap}
 use Rattle.std.specs.Prelude.{if◌then◌else◌, codes}
 use Rattle.wire_value.specs.Wire.{Wire, int}
 use Rattle.wire_value.specs.Exact.{is_exact}
@@ -11,7 +11,7 @@ use Rattle.runs.specs.Alike.{StageAlike, at_alike, StartAlike, wrong_flags, star
 use Rattle.runs.proofs.Spends.{spends_none, spends_same, follows_then}
 use Rattle.runs.proofs.SameRuns.{same_runs}
 use Rattle.elm_canon.specs.Tree.{Flags, AnyFlags, IntFlags, Project}
-use Rattle.elm_canon.specs.Values.{Value, IntV, UnitV, field_of}
+use Rattle.elm_canon.specs.Values.{Value, IntV, field_of}
 use Rattle.elm_canon.specs.Run.{stage_of, part_of, read_flags, start_with, source_nested, SourceRun}
 use Rattle.js_tree.specs.Values.{JVal, JNumV, field_in}
 use Rattle.js_tree.specs.Run.{Decoded, Refusal, Read, decode_int, Parcels, sends_of, j_stage, j_part, on_decoded, j_machine, JsRun}

@@ -7,8 +7,8 @@ use Rattle.std.proofs.lemmas.Slice.Eq.{bytes_eq-Decides}
 use Rattle.runs.specs.Ends.{End, Val}
 use Rattle.elm_canon.specs.Tree.{Ref, same_ref}
 use Rattle.elm_canon.specs.Tree as source
-use Rattle.js_tree.specs.Tree.{Name, Top, Local, Made, same_name, JArrow, Stmts, Const, Return}
-use Rattle.js_tree.specs.Values.{JVal, JCloV, JEnv, JBind, JBindRun, JHide, declares, run_find, j_find}
+use Rattle.js_tree.specs.Tree.{Name, Top, Local, Made, same_name, JArrow, Stmts, Const, Return, declares}
+use Rattle.js_tree.specs.Values.{JVal, JCloV, JEnv, JBind, JBindRun, JHide, run_find, j_find}
 use Rattle.js_emit.specs.Emit.{js_name}
 use Rattle.js_emit.specs.Scoped.{among}
 
@@ -70,10 +70,11 @@ pub held : (r : Ref) (scope : List Ref) → holds (js_name r) (js_names scope) �
 held r [] = refl
 held r (q ∷ qs) = ap (λ t. if t then true else holds (js_name r) (js_names qs)) (same_names r q) ∙ ap (λ t. if same_ref r q then true else t) (held r qs)
 
--- what s declares is new, and each once
+-- s is constants and a return; what it declares is new, and each once
 abbrev pub IsClear : List Name → Stmts → Type 0
 IsClear scope (Const x e s) = (holds x scope ≡ false) × IsClear (x ∷ scope) s
 IsClear scope (Return e) = Unit {0}
+IsClear scope _ = ⊥
 
 -- the functions that s begins with are found, over this environment
 abbrev pub IsBound : Stmts → JEnv → Type 0
@@ -116,6 +117,7 @@ skip_old _ scope clear y is whole rest = refl
 not_declared : (s : Stmts) (scope : List Name) → IsClear scope s → (y : Name) → holds y scope ≡ true → declares y s ≡ false
 not_declared (Const x e s) scope clear y is = ap (λ t. if t then true else declares y s) (apart y x scope is clear.0) ∙ not_declared s (x ∷ scope) clear.1 y (older y x scope is)
 not_declared (Return e) scope clear y is = refl
+not_declared _ scope clear y is = absurd clear
 
 -- a constant's name is declared once
 pub not_again : (x : Name) (scope : List Name) (s : Stmts) → IsClear (x ∷ scope) s → declares x s ≡ false

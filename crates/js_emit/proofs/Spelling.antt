@@ -7,9 +7,9 @@ use Rattle.std.proofs.lemmas.Bool.Decides.{nat_tests}
 use Rattle.elm_canon.specs.Tree.{Ref, Pattern, Named, Anything, Expr, Int, Var, Lambda, Apply, Binary, UnitOf, Pair, Triple, Record, Exprs, NoExpr, MoreExpr, Fields, NoField, MoreField, Defs, NoDef, MoreDef, IntPayload, UnitPayload, Known, Wrapper, EmptyBatch, OutPort, Group, Functions, Constant, Given}
 use Rattle.elm_canon.specs.Tree as source
 use Rattle.elm_canon.specs.Run.{name_of}
-use Rattle.js_tree.specs.Tree.{Name, Js, JArrow, JCall, Stmts, Return}
+use Rattle.js_tree.specs.Tree.{Name, Js, JArrow, JCall, Stmts, Return, Lines}
 use Rattle.js_tree.specs.Values.{is_exact}
-use Rattle.js_tree.specs.Subset.{is_unit, is_letter, is_name_unit, is_word, is_module, is_name, is_spelled, fields_spelled, are_spelled}
+use Rattle.js_tree.specs.Subset.{is_unit, is_letter, is_name_unit, is_word, is_module, is_name, is_spelled, fields_spelled, are_spelled, lines_spelled}
 use Rattle.js_emit.specs.Emit.{made_in, made_in_all, made_in_fields, js_name, js_parameter, behind_parameter, now, emit, emit_calls, emit_fields, emit_known, emit_defs, emit_groups, comes_before, insert_text, out_ports}
 use Rattle.js_emit.specs.Literals.{HasExactLiterals, AllHaveExactLiterals, FieldsHaveExactLiterals, DefsHaveExactLiterals, GroupsHaveExactLiterals}
 use Rattle.js_emit.specs.Spelled.{can_spell_name, can_spell_parameter, can_spell, can_spell_all, can_spell_fields, can_spell_declared, can_spell_defs, can_spell_known, can_spell_group}
@@ -17,7 +17,7 @@ use Rattle.js_emit.proofs.Names.{both_true}
 use Rattle.js_emit.proofs.Expressions.{returns_now}
 
 -- a name
-name_spelled : (r : Ref) → can_spell_name r ≡ true → is_name (js_name r) ≡ true
+pub name_spelled : (r : Ref) → can_spell_name r ≡ true → is_name (js_name r) ≡ true
 name_spelled (source.Local x) sp = sp
 name_spelled (source.Top m x) sp = sp
 
@@ -122,34 +122,34 @@ known_spelled r EmptyBatch sr sk = refl
 known_spelled r (OutPort IntPayload) sr sk = and_from (list_all is_unit (name_of r)) true (name_of_units r sr) refl
 known_spelled r (OutPort UnitPayload) sr sk = and_from (list_all is_unit (name_of r)) true (name_of_units r sr) refl
 
--- a group's functions, and what follows them
-defs_spelled : (ds : Defs) (s : Stmts) → can_spell_defs ds ≡ true → DefsHaveExactLiterals ds → are_spelled s ≡ true → are_spelled (emit_defs ds s) ≡ true
-defs_spelled NoDef s sp ex rest = rest
-defs_spelled (MoreDef f p e ds) s sp ex rest =
+-- a group's functions, and the lines behind them
+defs_spelled : (ds : Defs) (ls : Lines) → can_spell_defs ds ≡ true → DefsHaveExactLiterals ds → lines_spelled ls ≡ true → lines_spelled (emit_defs ds ls) ≡ true
+defs_spelled NoDef ls sp ex rest = rest
+defs_spelled (MoreDef f p e ds) ls sp ex rest =
     let r = both_true (can_spell_name f) (can_spell_declared (Lambda p e) && can_spell_defs ds) sp in
     let q = both_true (can_spell_declared (Lambda p e)) (can_spell_defs ds) r.1 in
     let se = is_spelled (now (emit 0 (Lambda p e))) in
-    let ss = are_spelled (emit_defs ds s) in
-    and_from (is_name (js_name f)) (se && ss) (name_spelled f r.0) (and_from se ss (declared_spelled (Lambda p e) q.0 ex.0) (defs_spelled ds s q.1 ex.1 rest))
+    let sl = lines_spelled (emit_defs ds ls) in
+    and_from (is_name (js_name f)) (se && sl) (name_spelled f r.0) (and_from se sl (declared_spelled (Lambda p e) q.0 ex.0) (defs_spelled ds ls q.1 ex.1 rest))
 
--- all groups, and the program that `main` is
-pub groups_spelled : (gs : List Group) (main : Ref) → list_all can_spell_group gs ≡ true → can_spell_name main ≡ true → GroupsHaveExactLiterals gs → are_spelled (emit_groups gs main) ≡ true
-groups_spelled [] main sp sm ex = name_spelled main sm
-groups_spelled (Functions ds ∷ gs) main sp sm ex =
+-- all groups
+pub groups_spelled : (gs : List Group) → list_all can_spell_group gs ≡ true → GroupsHaveExactLiterals gs → lines_spelled (emit_groups gs) ≡ true
+groups_spelled [] sp ex = refl
+groups_spelled (Functions ds ∷ gs) sp ex =
     let r = both_true (can_spell_defs ds) (list_all can_spell_group gs) sp in
-    defs_spelled ds (emit_groups gs main) r.0 ex.0 (groups_spelled gs main r.1 sm ex.1)
-groups_spelled (Constant x e ∷ gs) main sp sm ex =
+    defs_spelled ds (emit_groups gs) r.0 ex.0 (groups_spelled gs r.1 ex.1)
+groups_spelled (Constant x e ∷ gs) sp ex =
     let r = both_true (can_spell_name x && can_spell_declared e) (list_all can_spell_group gs) sp in
     let q = both_true (can_spell_name x) (can_spell_declared e) r.0 in
     let se = is_spelled (now (emit 0 e)) in
-    let ss = are_spelled (emit_groups gs main) in
-    and_from (is_name (js_name x)) (se && ss) (name_spelled x q.0) (and_from se ss (declared_spelled e q.1 ex.0) (groups_spelled gs main r.1 sm ex.1))
-groups_spelled (Given x k ∷ gs) main sp sm ex =
+    let sl = lines_spelled (emit_groups gs) in
+    and_from (is_name (js_name x)) (se && sl) (name_spelled x q.0) (and_from se sl (declared_spelled e q.1 ex.0) (groups_spelled gs r.1 ex.1))
+groups_spelled (Given x k ∷ gs) sp ex =
     let r = both_true (can_spell_name x && can_spell_known k) (list_all can_spell_group gs) sp in
     let q = both_true (can_spell_name x) (can_spell_known k) r.0 in
     let sk = is_spelled (emit_known x k) in
-    let ss = are_spelled (emit_groups gs main) in
-    and_from (is_name (js_name x)) (sk && ss) (name_spelled x q.0) (and_from sk ss (known_spelled x k q.0 q.1) (groups_spelled gs main r.1 sm ex.1))
+    let sl = lines_spelled (emit_groups gs) in
+    and_from (is_name (js_name x)) (sk && sl) (name_spelled x q.0) (and_from sk sl (known_spelled x k q.0 q.1) (groups_spelled gs r.1 ex.1))
 
 -- the outgoing ports
 

@@ -5,7 +5,7 @@ use Rattle.std.specs.Prelude.{ℕ, zero, suc, ◌+◌, pos, List, [], ◌∷◌,
 use Rattle.elm_canon.specs.Tree.{Ref, Pattern, Named, Anything, Operator, Add, Expr, Int, Var, Lambda, Apply, Binary, UnitOf, Pair, Triple, Record, Exprs, NoExpr, MoreExpr, Fields, NoField, MoreField, Defs, NoDef, MoreDef, Payload, IntPayload, UnitPayload, Flags, AnyFlags, IntFlags, Known, Wrapper, EmptyBatch, OutPort, Group, Functions, Constant, Given, Project}
 use Rattle.elm_canon.specs.Tree as source
 use Rattle.elm_canon.specs.Run.{name_of}
-use Rattle.js_tree.specs.Tree.{Name, Top, Local, Made, Plus, EncodeSame, EncodeNull, DecodeAny, DecodeInt, Js, JInt, JText, JVar, JArrow, JCall, JBinary, JObject, JHelper, JsList, NoJs, Stmts, Const, Return, Program}
+use Rattle.js_tree.specs.Tree.{Name, Top, Local, Made, Plus, EncodeSame, EncodeNull, DecodeAny, DecodeInt, Js, JInt, JText, JVar, JArrow, JCall, JBinary, JObject, JBlock, JHelper, NoJs, Stmts, Const, Return, Lines, NoLine, MoreLine, Program}
 use Rattle.js_tree.specs.Tree as js
 
 -- the name of what a name of the source means
@@ -54,10 +54,11 @@ abbrev pub behind_parameter : ℕ → Pattern → ℕ
 behind_parameter d (Named x) = d
 behind_parameter d Anything = suc d
 
--- the expression that statements in return position are
+-- the expression that statements in return position are; what is no constant and no return is a block that is called at once
 abbrev pub now : Stmts → Js
 now (Return e) = e
 now (Const x e s) = JCall (JArrow x s) e
+now s = JBlock s
 
 -- an object with a tag
 abbrev pub tagged : ℕ → js.Fields → Js
@@ -102,17 +103,17 @@ emit_known r EmptyBatch = tagged 1 (js.MoreField (field_name 0) (tagged 0 js.NoF
 emit_known r (OutPort t) =
     JArrow (Made 0) (Return (tagged 0 (js.MoreField (field_name 0) (JText (name_of r)) (js.MoreField (field_name 1) (JCall (encoder t) (JVar (Made 0))) js.NoField))))
 
--- a constant for each function
-abbrev pub emit_defs : Defs → Stmts → Stmts
-emit_defs NoDef s = s
-emit_defs (MoreDef f p e ds) s = Const (js_name f) (JArrow (js_parameter 0 p) (emit (behind_parameter 0 p) e)) (emit_defs ds s)
+-- a line for each function, and then others
+abbrev pub emit_defs : Defs → Lines → Lines
+emit_defs NoDef ls = ls
+emit_defs (MoreDef f p e ds) ls = MoreLine (js_name f) (JArrow (js_parameter 0 p) (emit (behind_parameter 0 p) e)) (emit_defs ds ls)
 
--- the constants of the groups in order, and then the program that `main` is
-abbrev pub emit_groups : List Group → Ref → Stmts
-emit_groups [] main = Return (JVar (js_name main))
-emit_groups (Functions ds ∷ gs) main = emit_defs ds (emit_groups gs main)
-emit_groups (Constant r e ∷ gs) main = Const (js_name r) (now (emit 0 e)) (emit_groups gs main)
-emit_groups (Given r k ∷ gs) main = Const (js_name r) (emit_known r k) (emit_groups gs main)
+-- the constants of the groups in order
+abbrev pub emit_groups : List Group → Lines
+emit_groups [] = NoLine
+emit_groups (Functions ds ∷ gs) = emit_defs ds (emit_groups gs)
+emit_groups (Constant r e ∷ gs) = MoreLine (js_name r) (now (emit 0 e)) (emit_groups gs)
+emit_groups (Given r k ∷ gs) = MoreLine (js_name r) (emit_known r k) (emit_groups gs)
 
 -- texts in the order of their units
 abbrev pub comes_before : List ℕ → List ℕ → Bool
@@ -133,7 +134,8 @@ out_ports (_ ∷ gs) = out_ports gs
 -- Emit: the program's JavaScript
 abbrev pub Emit : Project → Program
 Emit p = record {
-  body = emit_groups p.groups p.main;
+  lines = emit_groups p.groups;
+  main = JVar (js_name p.main);
   name = p.name;
   flags = flags_decoder p.flags;
   ins = js.NoField;

@@ -1,16 +1,18 @@
 //! The JavaScript of an expression.
 
-ghost use Rattle.std.specs.Prelude.{◌≡◌, ◌+◌, IfOk, map};
+ghost use Rattle.std.specs.Prelude.{◌≡◌, ◌+◌, ◌∷◌, IfOk, OnOk, map};
 ghost use Rattle.elm_canon.specs.View.{expr_view, field_view, exprs_of, fields_of, ref_view, pattern_view, operator_view};
-ghost use Rattle.js_tree.specs.Tree.{Return};
-ghost use Rattle.js_tree.specs.View as output;
+ghost use Rattle.js_tree.specs.Tree.{JObject};
+ghost use Rattle.js_tree.specs.Postorder as output;
+ghost use Rattle.js_tree.specs.Postorder.{Expression, Member, MembersOf, below, build, expression, members, top};
 ghost use Rattle.js_emit.specs.Emit.{emit, emit_calls, emit_fields, made_in, made_in_all, made_in_fields, js_name, js_operator, js_parameter, behind_parameter, now};
 ghost use Rattle.js_emit.specs.Literals.{HasExactLiterals, AllHaveExactLiterals, FieldsHaveExactLiterals};
 
-use crate::build::{arrow, binary, call, pair, triple};
+use crate::build::{begin_block, begin_tagged, end_arrow, field};
 use elm_canon::tree as source;
 use elm_canon::tree::{Expr, Pattern, Ref};
-use js_tree::tree::{Field, Js, Name, Operator};
+use js_tree::tree::{Name, Node, Operator};
+use js_tree::trees::Trees;
 use std::alloc::{AllocError, Global};
 
 /// The name of what a name of the source means.
@@ -49,94 +51,110 @@ fn js_operator(operator: source::Operator) -> Operator
     }
 }
 
-/// The expression's JavaScript. `made` is the number of the next made name.
+/// Adds the expression's JavaScript. `made` is the number of the next made name.
 #[cycle(expr)]
-pub fn emit_expr(alloc: Global, expr: &Expr, made: &mut u64) -> Result<Js, AllocError>
+pub fn emit_expr(
+    alloc: Global,
+    trees: &mut Trees,
+    expr: &Expr,
+    made: &mut u64,
+) -> Result<(), AllocError>
     requires exact { HasExactLiterals (expr_view expr.now) }
-    ensures emitted { IfOk result (λ js. emit made.old (expr_view expr.now) ≡ Return (output.js_view js)) }
-    ensures counted { IfOk result (λ _. made.new ≡ made.old + made_in (expr_view expr.now)) }
+    ensures emitted { OnOk result (build trees.new ≡ Expression (now (emit made.old (expr_view expr.now))) ∷ build trees.old) }
+    ensures counted { OnOk result (made.new ≡ made.old + made_in (expr_view expr.now)) }
 {
     match expr {
-        Expr::Int(n) => Ok(Js::Int(*n as i64)),
-        Expr::Var(name) => Ok(Js::Var(js_name(name)?)),
+        Expr::Int(n) => trees.push(Node::Int(*n as i64)),
+        Expr::Var(name) => trees.push(Node::Var(js_name(name)?)),
         Expr::Lambda(pattern, body) => {
             let name = parameter(pattern, made)?;
-            let value = emit_expr(alloc, body, made)?;
-            arrow(alloc, name, value)
+            begin_block(trees)?;
+            emit_expr(alloc, trees, body, made)?;
+            end_arrow(trees, name)
         }
         Expr::Apply(function, arguments) => {
-            let called = emit_expr(alloc, function, made)?;
-            emit_calls(alloc, arguments, called, made)
+            emit_expr(alloc, trees, function, made)?;
+            emit_calls(alloc, trees, arguments, made)
         }
         Expr::Binary(operator, left, right) => {
-            let first = emit_expr(alloc, left, made)?;
-            let second = emit_expr(alloc, right, made)?;
-            binary(alloc, js_operator(*operator), first, second)
+            emit_expr(alloc, trees, left, made)?;
+            emit_expr(alloc, trees, right, made)?;
+            trees.push(Node::Binary(js_operator(*operator)))
         }
-        Expr::Unit => Ok(Js::Int(0)),
+        Expr::Unit => trees.push(Node::Int(0)),
         Expr::Pair(a, b) => {
-            let first = emit_expr(alloc, a, made)?;
-            let second = emit_expr(alloc, b, made)?;
-            pair(alloc, first, second)
+            begin_tagged(alloc, trees, 0)?;
+            emit_expr(alloc, trees, a, made)?;
+            field(alloc, trees, b"a0")?;
+            emit_expr(alloc, trees, b, made)?;
+            field(alloc, trees, b"a1")?;
+            trees.push(Node::Object)
         }
         Expr::Triple(a, b, c) => {
-            let first = emit_expr(alloc, a, made)?;
-            let second = emit_expr(alloc, b, made)?;
-            let third = emit_expr(alloc, c, made)?;
-            triple(alloc, first, second, third)
+            begin_tagged(alloc, trees, 0)?;
+            emit_expr(alloc, trees, a, made)?;
+            field(alloc, trees, b"a0")?;
+            emit_expr(alloc, trees, b, made)?;
+            field(alloc, trees, b"a1")?;
+            emit_expr(alloc, trees, c, made)?;
+            field(alloc, trees, b"a2")?;
+            trees.push(Node::Object)
         }
-        Expr::Record(fields) => Ok(Js::Object(emit_fields(alloc, fields, made)?)),
+        Expr::Record(fields) => emit_record(alloc, trees, fields, made),
     }
 }
 
-// The calls of `function` with the arguments in turn.
+// Adds the calls of the last tree with the arguments in turn.
 #[cycle(expr)]
 fn emit_calls(
     alloc: Global,
+    trees: &mut Trees,
     arguments: &Vec<Expr>,
-    function: Js,
     made: &mut u64,
-) -> Result<Js, AllocError>
+) -> Result<(), AllocError>
     requires exact { AllHaveExactLiterals (exprs_of (map expr_view arguments.now.items)) }
-    ensures emitted { IfOk result (λ js. output.js_view js ≡ emit_calls (output.js_view function) made.old (exprs_of (map expr_view arguments.now.items))) }
-    ensures counted { IfOk result (λ _. made.new ≡ made.old + made_in_all (exprs_of (map expr_view arguments.now.items))) }
+    requires called { build trees.old ≡ Expression (expression (top (build trees.old))) ∷ below (build trees.old) }
+    ensures emitted { OnOk result (build trees.new ≡ Expression (emit_calls (expression (top (build trees.old))) made.old (exprs_of (map expr_view arguments.now.items))) ∷ below (build trees.old)) }
+    ensures counted { OnOk result (made.new ≡ made.old + made_in_all (exprs_of (map expr_view arguments.now.items))) }
 {
-    let mut called = function;
     for argument in arguments {
-        let value = emit_expr(alloc, argument, made)?;
-        called = call(alloc, called, value)?;
+        emit_expr(alloc, trees, argument, made)?;
+        trees.push(Node::Call)?;
     }
-    Ok(called)
+    Ok(())
 }
 
-// The fields of a record, in written order.
+// Adds the object that a record is, its fields in written order.
 #[cycle(expr)]
-#[tactic(auto, using(std::proofs::lemmas::Grind::common_steps, crate::proofs::Fields::push_field, crate::proofs::Fields::fields_before_none))]
-fn emit_fields(
+fn emit_record(
     alloc: Global,
+    trees: &mut Trees,
     fields: &Vec<source::Field>,
     made: &mut u64,
-) -> Result<Vec<Field>, AllocError>
+) -> Result<(), AllocError>
     requires exact { FieldsHaveExactLiterals (fields_of (map field_view fields.now.items)) }
-    ensures emitted { IfOk result (λ out. output.fields_of (map output.field_view out.items) ≡ emit_fields made.old (fields_of (map field_view fields.now.items))) }
-    ensures counted { IfOk result (λ _. made.new ≡ made.old + made_in_fields (fields_of (map field_view fields.now.items))) }
+    ensures emitted { OnOk result (build trees.new ≡ Expression (JObject (emit_fields made.old (fields_of (map field_view fields.now.items)))) ∷ build trees.old) }
+    ensures counted { OnOk result (made.new ≡ made.old + made_in_fields (fields_of (map field_view fields.now.items))) }
 {
-    let mut out = Vec::with_capacity(alloc, fields.len())?;
+    trees.push(Node::NoField)?;
     for field in fields {
-        let value = emit_field(alloc, field, made)?;
-        out.push(value)?;
+        emit_field(alloc, trees, field, made)?;
     }
-    Ok(out)
+    trees.push(Node::Object)
 }
 
+// Adds a field behind those before it.
 #[cycle(expr)]
-fn emit_field(alloc: Global, field: &source::Field, made: &mut u64) -> Result<Field, AllocError>
+fn emit_field(
+    alloc: Global,
+    trees: &mut Trees,
+    field: &source::Field,
+    made: &mut u64,
+) -> Result<(), AllocError>
     requires exact { HasExactLiterals (field_view field.now).1 }
-    ensures named { IfOk result (λ out. (output.field_view out).0 ≡ (field_view field.now).0) }
-    ensures emitted { IfOk result (λ out. emit made.old (field_view field.now).1 ≡ Return (output.field_view out).1) }
-    ensures counted { IfOk result (λ _. made.new ≡ made.old + made_in (field_view field.now).1) }
+    ensures emitted { OnOk result (build trees.new ≡ MembersOf (Member (members (top (build trees.old))) (field_view field.now).0 (now (emit made.old (field_view field.now).1))) ∷ below (build trees.old)) }
+    ensures counted { OnOk result (made.new ≡ made.old + made_in (field_view field.now).1) }
 {
-    let value = emit_expr(alloc, &field.value, made)?;
-    let name = field.name.clone()?;
-    Ok(Field { name, value })
+    emit_expr(alloc, trees, &field.value, made)?;
+    trees.push(Node::Field(field.name.clone()?))
 }

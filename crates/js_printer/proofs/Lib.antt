@@ -1,1 +1,5 @@
 pub mod Texts
+pub mod Splits
+pub mod Others
+pub mod Parts
+pub mod Turns

@@ -1,11 +1,14 @@
-//! Expressions and statements.
+//! Expressions, and the parts of their lists.
 
-ghost use Rattle.std.specs.Prelude.{◌≡◌, ◌++◌, OnOk, codes, map};
-ghost use Rattle.js_tree.specs.Text.{js_text, name_text, text_text, list_text, fields_text, stmts_text, operator_text, helper_text};
-ghost use Rattle.js_tree.specs.View.{js_view, statement_view, ending_view, block_view, field_view, operator_view, helper_view, list_of, fields_of};
+ghost use Rattle.std.specs.Prelude.{◌≡◌, ◌≤◌, ℕ, List, length, OnOk};
+ghost use Rattle.js_tree.specs.Postorder.{operator_view, helper_view};
+ghost use Rattle.js_tree.specs.Text.{bool_text, operator_text, helper_text};
+ghost use Rattle.js_printer.specs.Tasks.{IsStep};
 
-use crate::spelling::{write_comma, write_int, write_name, write_text};
-use js_tree::tree::{Block, Ending, Field, Helper, Js, Operator, Statement};
+use crate::spelling::{write_int, write_name, write_text};
+use crate::task::{Task, push_parts};
+use js_tree::tree::{Helper, Node, Operator};
+use js_tree::trees::Trees;
 use std::alloc::AllocError;
 
 /// The text of an operator.
@@ -14,7 +17,19 @@ fn operator_bytes(operator: Operator) -> &'static [u8]
 {
     match operator {
         Operator::Plus => b"+",
+        Operator::Minus => b"-",
+        Operator::Times => b"*",
+        Operator::StrictEquals => b"===",
+        Operator::And => b"&&",
+        Operator::Or => b"||",
     }
+}
+
+/// The text of a truth value.
+fn bool_bytes(value: bool) -> &'static [u8]
+    ensures { result.now ≡ bool_text value }
+{
+    if value { b"true" } else { b"false" }
 }
 
 /// The name of a function of the fixed text.
@@ -22,125 +37,190 @@ fn helper_bytes(helper: Helper) -> &'static [u8]
     ensures { result.now ≡ helper_text (helper_view helper) }
 {
     match helper {
+        Helper::Crash => b"_crash",
+        Helper::Quotient => b"_quot",
+        Helper::Remainder => b"_rem",
+        Helper::Modulo => b"_mod",
+        Helper::BitAnd => b"_and",
+        Helper::BitOr => b"_or",
+        Helper::BitXor => b"_xor",
+        Helper::BitNot => b"_not",
+        Helper::ShiftLeft => b"_shl",
+        Helper::ShiftRight => b"_shr",
+        Helper::ShiftRightZero => b"_shz",
+        Helper::FromInt => b"_fromInt",
+        Helper::Length => b"_length",
+        Helper::UnitAt => b"_unitAt",
+        Helper::FromUnit => b"_fromUnit",
+        Helper::Slice => b"_slice",
+        Helper::Find => b"_find",
+        Helper::Same => b"_same",
+        Helper::Update => b"_update",
+        Helper::ArrayOf => b"_array",
+        Helper::Append => b"_append",
+        Helper::Pairs => b"_pairs",
+        Helper::Size => b"_size",
+        Helper::Equal => b"_eq",
+        Helper::Compare => b"_cmp",
+        Helper::DecodeInt => b"_dInt",
+        Helper::DecodeBool => b"_dBool",
+        Helper::DecodeText => b"_dText",
+        Helper::DecodeNull => b"_dNull",
+        Helper::DecodeAny => b"_dAny",
+        Helper::DecodeMaybe => b"_dMaybe",
+        Helper::All => b"_all",
+        Helper::DecodeList => b"_dList",
+        Helper::DecodeTuple => b"_dTuple",
+        Helper::DecodeRecord => b"_dRecord",
         Helper::EncodeSame => b"_eSame",
         Helper::EncodeNull => b"_eNull",
-        Helper::DecodeAny => b"_dAny",
-        Helper::DecodeInt => b"_dInt",
+        Helper::EncodeMaybe => b"_eMaybe",
+        Helper::EncodeList => b"_eList",
+        Helper::EncodeTuple => b"_eTuple",
+        Helper::EncodeRecord => b"_eRecord",
     }
 }
 
-/// Adds an expression.
-#[cycle(printer)]
-pub fn write_js(text: &mut Vec<u8>, js: &Js) -> Result<(), AllocError>
-    ensures { OnOk result (text.new.items ≡ text.old.items ++ js_text (js_view js.now)) }
+/// Writes an expression up to its first part, and leaves the parts.
+pub fn write_expression(
+    text: &mut Vec<u8>,
+    tasks: &mut Vec<Task>,
+    trees: &Trees,
+    place: usize,
+) -> Result<(), AllocError>
+    requires { place ≤ length trees.now }
+    ensures { OnOk result (IsStep trees.now (Task.Expression place) text.old.items tasks.old.items text.new.items tasks.new.items) }
 {
-    match js {
-        Js::Int(value) => write_int(text, *value),
-        Js::Text(units) => write_text(text, units.as_slice()),
-        Js::Var(name) => write_name(text, name),
-        Js::Arrow(parameter, body) => {
+    let Some(node) = trees.node(place) else {
+        return text.extend_from_slice(b"0");
+    };
+    let last = place - 1;
+    match node {
+        Node::Int(value) => write_int(text, *value),
+        Node::Bool(value) => text.extend_from_slice(bool_bytes(*value)),
+        Node::Text(units) => write_text(text, units.as_slice()),
+        Node::Var(name) => write_name(text, name),
+        Node::Arrow(parameter) => {
             text.push(b'(')?;
             write_name(text, parameter)?;
             text.extend_from_slice(b"=>{")?;
-            write_block(text, body)?;
-            text.extend_from_slice(b"})")
+            push_parts(tasks, &[Task::Block(last), Task::Bytes(b"})")])
         }
-        Js::Call(function, argument) => {
-            write_js(text, function)?;
+        Node::Block => {
+            text.extend_from_slice(b"(()=>{")?;
+            push_parts(tasks, &[Task::Block(last), Task::Bytes(b"})()")])
+        }
+        Node::Call => push_parts(
+            tasks,
+            &[
+                Task::Expression(trees.below(last)),
+                Task::Bytes(b"("),
+                Task::Expression(last),
+                Task::Bytes(b")"),
+            ],
+        ),
+        Node::Binary(operator) => {
+            let left = trees.below(last);
             text.push(b'(')?;
-            write_js(text, argument)?;
-            text.extend_from_slice(b")")
+            push_parts(
+                tasks,
+                &[
+                    Task::Expression(left),
+                    Task::Bytes(operator_bytes(*operator)),
+                    Task::Expression(last),
+                    Task::Bytes(b")"),
+                ],
+            )
         }
-        Js::Binary(operator, left, right) => {
+        Node::Conditional => {
+            let middle = trees.below(last);
             text.push(b'(')?;
-            write_js(text, left)?;
-            text.extend_from_slice(operator_bytes(*operator))?;
-            write_js(text, right)?;
-            text.extend_from_slice(b")")
+            push_parts(
+                tasks,
+                &[
+                    Task::Expression(trees.below(middle)),
+                    Task::Bytes(b"?"),
+                    Task::Expression(middle),
+                    Task::Bytes(b":"),
+                    Task::Expression(last),
+                    Task::Bytes(b")"),
+                ],
+            )
         }
-        Js::Object(fields) => {
+        Node::Object => {
             text.push(b'{')?;
-            write_fields(text, fields)?;
-            text.extend_from_slice(b"}")
+            push_parts(tasks, &[Task::Members(last), Task::Bytes(b"}")])
         }
-        Js::Helper(helper, arguments) => {
+        Node::Property(_) => push_parts(tasks, &[Task::Expression(last), Task::Key(place)]),
+        Node::List => {
+            text.extend_from_slice(b"_list([")?;
+            push_parts(tasks, &[Task::Items(last), Task::Bytes(b"])")])
+        }
+        Node::Helper(helper) => {
             text.extend_from_slice(helper_bytes(*helper))?;
             text.push(b'(')?;
-            write_list(text, arguments)?;
-            text.extend_from_slice(b")")
+            push_parts(tasks, &[Task::Items(last), Task::Bytes(b")")])
         }
+        _ => text.extend_from_slice(b"0"),
     }
 }
 
-/// Adds expressions, with commas between them.
-#[cycle(printer)]
-fn write_list(text: &mut Vec<u8>, list: &Vec<Js>) -> Result<(), AllocError>
-    ensures { OnOk result (text.new.items ≡ text.old.items ++ list_text (list_of (map js_view list.now.items))) }
+/// Writes the brackets behind an object, with the name of its field.
+pub fn write_key(text: &mut Vec<u8>, trees: &Trees, place: usize) -> Result<(), AllocError>
+    requires { place ≤ length trees.now }
+    ensures { (tasks : List Task) → OnOk result (IsStep trees.now (Task.Key place) text.old.items tasks text.new.items tasks) }
 {
-    let mut is_first = true;
-    for js in list {
-        write_comma(text, is_first)?;
-        write_js(text, js)?;
-        is_first = false;
-    }
-    Ok(())
+    let Some(node) = trees.node(place) else {
+        return Ok(());
+    };
+    let Node::Property(name) = node else {
+        return Ok(());
+    };
+    text.push(b'[')?;
+    write_text(text, name.as_slice())?;
+    text.extend_from_slice(b"]")
 }
 
-/// Adds the fields of an object, with commas between them.
-#[cycle(printer)]
-pub fn write_fields(text: &mut Vec<u8>, fields: &Vec<Field>) -> Result<(), AllocError>
-    ensures { OnOk result (text.new.items ≡ text.old.items ++ fields_text (fields_of (map field_view fields.now.items))) }
+/// Leaves the items of a list, with commas between them.
+pub fn leave_items(tasks: &mut Vec<Task>, trees: &Trees, place: usize) -> Result<(), AllocError>
+    requires { place ≤ length trees.now }
+    ensures { (text : List ℕ) → OnOk result (IsStep trees.now (Task.Items place) text tasks.old.items text tasks.new.items) }
 {
-    let mut is_first = true;
-    for field in fields {
-        write_comma(text, is_first)?;
-        write_field(text, field)?;
-        is_first = false;
-    }
-    Ok(())
+    let Some(node) = trees.node(place) else {
+        return Ok(());
+    };
+    let Node::Item = node else {
+        return Ok(());
+    };
+    let last = place - 1;
+    push_parts(
+        tasks,
+        &[Task::ItemsBefore(trees.below(last)), Task::Expression(last)],
+    )
 }
 
-/// Adds a field of an object.
-#[cycle(printer)]
-fn write_field(text: &mut Vec<u8>, field: &Field) -> Result<(), AllocError>
-    ensures { OnOk result (text.new.items ≡ text.old.items ++ (text_text (field_view field.now).0 ++ codes ":" ++ js_text (field_view field.now).1)) }
+/// Leaves items that another one follows, each with the comma behind it.
+pub fn leave_items_before(
+    tasks: &mut Vec<Task>,
+    trees: &Trees,
+    place: usize,
+) -> Result<(), AllocError>
+    requires { place ≤ length trees.now }
+    ensures { (text : List ℕ) → OnOk result (IsStep trees.now (Task.ItemsBefore place) text tasks.old.items text tasks.new.items) }
 {
-    write_text(text, field.name.as_slice())?;
-    text.push(b':')?;
-    write_js(text, &field.value)
-}
-
-/// Adds the statements of a function.
-#[cycle(printer)]
-fn write_block(text: &mut Vec<u8>, block: &Block) -> Result<(), AllocError>
-    ensures { OnOk result (text.new.items ≡ text.old.items ++ stmts_text (block_view block.now)) }
-{
-    for statement in &block.statements {
-        write_statement(text, statement)?;
-        text.push(b';')?;
-    }
-    write_ending(text, &block.end)
-}
-
-/// Adds a statement, up to what ends it.
-#[cycle(printer)]
-pub fn write_statement(text: &mut Vec<u8>, statement: &Statement) -> Result<(), AllocError>
-    ensures { OnOk result (text.new.items ≡ text.old.items ++ (codes "const " ++ name_text (statement_view statement.now).0 ++ codes "=" ++ js_text (statement_view statement.now).1)) }
-{
-    let Statement::Const(name, value) = statement;
-    text.extend_from_slice(b"const ")?;
-    write_name(text, name)?;
-    text.push(b'=')?;
-    write_js(text, value)
-}
-
-/// Adds the last statement of a function.
-#[cycle(printer)]
-fn write_ending(text: &mut Vec<u8>, ending: &Ending) -> Result<(), AllocError>
-    ensures { OnOk result (text.new.items ≡ text.old.items ++ stmts_text (ending_view ending.now)) }
-{
-    let Ending::Return(value) = ending;
-    text.extend_from_slice(b"return ")?;
-    write_js(text, value)?;
-    text.extend_from_slice(b";")
+    let Some(node) = trees.node(place) else {
+        return Ok(());
+    };
+    let Node::Item = node else {
+        return Ok(());
+    };
+    let last = place - 1;
+    push_parts(
+        tasks,
+        &[
+            Task::ItemsBefore(trees.below(last)),
+            Task::Expression(last),
+            Task::Bytes(b","),
+        ],
+    )
 }

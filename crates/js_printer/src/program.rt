@@ -1,61 +1,138 @@
 //! The lines of a program.
 
-ghost use Rattle.std.specs.Prelude.{◌≡◌, ◌++◌, OnOk};
-ghost use Rattle.js_tree.specs.Text.{fields_text, lines_text, outs_fields};
-ghost use Rattle.js_tree.specs.Tree.{Return};
-ghost use Rattle.js_tree.specs.View.{js_view, ending_view, program_view};
+ghost use Rattle.std.specs.Prelude.{◌≡◌, ◌≤◌, ◌++◌, ℕ, List, length, OnOk};
+ghost use Rattle.js_tree.specs.Text.{fields_text, outs_fields};
+ghost use Rattle.js_printer.specs.Tasks.{IsStep};
 
-use crate::expression::{write_fields, write_js, write_statement};
 use crate::spelling::{write_comma, write_text};
+use crate::statement::write_value;
+use crate::task::{Task, push_parts};
 use elm_base::units::Units;
-use js_tree::tree::{Ending, Js, Program};
+use js_tree::runtime::{HEAD, TAIL};
+use js_tree::tree::Node;
+use js_tree::trees::Trees;
 use std::alloc::AllocError;
 
-/// Adds a line for each constant, and the line of `_main`.
-pub fn write_lines(text: &mut Vec<u8>, program: &Program) -> Result<(), AllocError>
-    ensures { OnOk result (text.new.items ≡ text.old.items ++ lines_text (program_view program.now) (program_view program.now).body) }
+/// Leaves the lines of constants.
+pub fn leave_lines(tasks: &mut Vec<Task>, trees: &Trees, place: usize) -> Result<(), AllocError>
+    requires { place ≤ length trees.now }
+    ensures { (text : List ℕ) → OnOk result (IsStep trees.now (Task.Lines place) text tasks.old.items text tasks.new.items) }
 {
-    for statement in &program.body.statements {
-        write_statement(text, statement)?;
-        text.extend_from_slice(b";\n")?;
-    }
-    write_main(text, program)
+    let Some(node) = trees.node(place) else {
+        return Ok(());
+    };
+    let Node::Line(_) = node else {
+        return Ok(());
+    };
+    let before = trees.below(place - 1);
+    push_parts(tasks, &[Task::Lines(before), Task::Line(place)])
 }
 
-/// Adds the line of `_main`.
-fn write_main(text: &mut Vec<u8>, program: &Program) -> Result<(), AllocError>
-    ensures { OnOk result (text.new.items ≡ text.old.items ++ lines_text (program_view program.now) (ending_view program.now.body.end)) }
+/// Writes a constant's line up to its value, and leaves the value.
+pub fn write_line(
+    text: &mut Vec<u8>,
+    tasks: &mut Vec<Task>,
+    trees: &Trees,
+    place: usize,
+) -> Result<(), AllocError>
+    requires { place ≤ length trees.now }
+    ensures { OnOk result (IsStep trees.now (Task.Line place) text.old.items tasks.old.items text.new.items tasks.new.items) }
 {
-    let Ending::Return(value) = &program.body.end;
-    write_main_of(text, program, value)
+    let Some(node) = trees.node(place) else {
+        return Ok(());
+    };
+    let Node::Line(name) = node else {
+        return Ok(());
+    };
+    text.extend_from_slice(b"const ")?;
+    write_value(text, tasks, name, place - 1, b";\n")
 }
 
-/// Adds the line of `_main`, around the program that the constants end with.
-fn write_main_of(text: &mut Vec<u8>, program: &Program, value: &Js) -> Result<(), AllocError>
-    ensures { OnOk result (text.new.items ≡ text.old.items ++ lines_text (program_view program.now) (Return (js_view value.now))) }
+/// Writes the fixed text in front of a program, and leaves its lines and the fixed text behind it.
+pub fn write_program(
+    text: &mut Vec<u8>,
+    tasks: &mut Vec<Task>,
+    trees: &Trees,
+    place: usize,
+) -> Result<(), AllocError>
+    requires { place ≤ length trees.now }
+    ensures { OnOk result (IsStep trees.now (Task.Program place) text.old.items tasks.old.items text.new.items tasks.new.items) }
 {
+    let Some(node) = trees.node(place) else {
+        return Ok(());
+    };
+    let Node::Program { .. } = node else {
+        return Ok(());
+    };
+    let flags = trees.below(place - 1);
+    let main = trees.below(flags);
+    let lines = trees.below(main);
+    text.extend_from_slice(HEAD)?;
+    push_parts(
+        tasks,
+        &[Task::Lines(lines), Task::Main(place), Task::Bytes(TAIL)],
+    )
+}
+
+/// Writes the line of `_main` up to the program that it holds, and leaves the rest of the line.
+pub fn write_main(
+    text: &mut Vec<u8>,
+    tasks: &mut Vec<Task>,
+    trees: &Trees,
+    place: usize,
+) -> Result<(), AllocError>
+    requires { place ≤ length trees.now }
+    ensures { OnOk result (IsStep trees.now (Task.Main place) text.old.items tasks.old.items text.new.items tasks.new.items) }
+{
+    let Some(node) = trees.node(place) else {
+        return Ok(());
+    };
+    let Node::Program { name, .. } = node else {
+        return Ok(());
+    };
+    let ins = place - 1;
+    let flags = trees.below(ins);
+    let main = trees.below(flags);
     text.extend_from_slice(br##"const _main={"name":"##)?;
-    write_text(text, program.name.as_slice())?;
+    write_text(text, name.as_slice())?;
     text.extend_from_slice(br##","program":"##)?;
-    write_js(text, value)?;
-    text.extend_from_slice(br##","flags":"##)?;
-    write_js(text, &program.flags)?;
-    text.extend_from_slice(br##","ins":{"##)?;
-    write_fields(text, &program.ins)?;
-    text.extend_from_slice(br##"},"outs":{"##)?;
-    write_outs(text, &program.outs)?;
-    text.extend_from_slice(b"}};\n")?;
-    Ok(())
+    push_parts(
+        tasks,
+        &[
+            Task::Expression(main),
+            Task::Bytes(br##","flags":"##),
+            Task::Expression(flags),
+            Task::Bytes(br##","ins":{"##),
+            Task::Members(ins),
+            Task::Bytes(br##"},"outs":{"##),
+            Task::Outs(place),
+            Task::Bytes(b"}};\n"),
+        ],
+    )
 }
 
-/// Adds the outgoing ports, as fields.
-fn write_outs(text: &mut Vec<u8>, outs: &Vec<Units>) -> Result<(), AllocError>
-    ensures { OnOk result (text.new.items ≡ text.old.items ++ fields_text (outs_fields outs.now.items)) }
+/// Writes the outgoing ports of a program, as fields.
+pub fn write_outs(text: &mut Vec<u8>, trees: &Trees, place: usize) -> Result<(), AllocError>
+    requires { place ≤ length trees.now }
+    ensures { (tasks : List Task) → OnOk result (IsStep trees.now (Task.Outs place) text.old.items tasks text.new.items tasks) }
+{
+    let Some(node) = trees.node(place) else {
+        return Ok(());
+    };
+    let Node::Program { outs, .. } = node else {
+        return Ok(());
+    };
+    write_ports(text, outs)
+}
+
+/// Writes ports as fields.
+fn write_ports(text: &mut Vec<u8>, ports: &Vec<Units>) -> Result<(), AllocError>
+    ensures { OnOk result (text.new.items ≡ text.old.items ++ fields_text (outs_fields ports.now.items)) }
 {
     let mut is_first = true;
-    for out in outs {
+    for port in ports {
         write_comma(text, is_first)?;
-        write_text(text, out.as_slice())?;
+        write_text(text, port.as_slice())?;
         text.extend_from_slice(b":0")?;
         is_first = false;
     }

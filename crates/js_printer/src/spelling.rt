@@ -2,7 +2,7 @@
 
 ghost use Rattle.std.specs.Prelude.{◌≡◌, ◌<◌, [], ◌++◌, OnOk, if◌then◌else◌, codes};
 ghost use Rattle.js_tree.specs.Text as spelled;
-ghost use Rattle.js_tree.specs.View.{name_view};
+ghost use Rattle.js_tree.specs.Postorder.{name_view};
 
 use itoa::Buffer;
 use js_tree::tree::Name;

@@ -1,7 +1,9 @@
 pub mod Tree
-pub mod View
 pub mod Values
 pub mod Eval
 pub mod Run
 pub mod Text
 pub mod Subset
+pub mod Faults
+pub mod Postorder
+pub mod Insides

@@ -1,8 +1,9 @@
--- The conditions of the subset: names and texts that can be spelled, integers that are exact, and each name bound where it is used.
-use Rattle.std.specs.Prelude.{ℕ, ◌^◌, List, [], ◌∷◌, Bool, true, false, if◌then◌else◌, ◌&&◌, ◌||◌, not, ◌==◌, nat_le, nat_lt}
-use Rattle.std.specs.List.{list_all, list_any}
-use Rattle.js_tree.specs.Tree.{Name, Top, Local, Made, same_name, Js, JInt, JText, JVar, JArrow, JCall, JBinary, JObject, JHelper, JsList, NoJs, MoreJs, Fields, NoField, MoreField, Stmts, Const, Return, Program}
-use Rattle.js_tree.specs.Values.{is_exact}
+-- The conditions of the subset: names and texts that can be spelled, integers that are exact, each name bound where it is used, and a name that is
+-- assigned in no function nested in its scope.
+use Rattle.std.specs.Prelude.{ℕ, ◌^◌, List, [], ◌∷◌, map, Bool, true, false, if◌then◌else◌, ◌&&◌, ◌||◌, not, ◌==◌, nat_le, nat_lt}
+use Rattle.std.specs.List.{list_all}
+use Rattle.js_tree.specs.Tree.{Name, Top, Local, Made, same_name, Js, JInt, JBool, JText, JVar, JArrow, JBlock, JCall, JBinary, JConditional, JObject, JProperty, JList, JHelper, JsList, NoJs, MoreJs, Fields, NoField, MoreField, Stmts, Const, Let, Assign, Return, If, While, Continue, Lines, NoLine, MoreLine, Program, declares}
+use Rattle.wire_value.specs.Exact.{is_exact}
 use Rattle.js_tree.specs.Text.{is_word_char}
 
 abbrev pub is_unit : ℕ → Bool
@@ -39,12 +40,17 @@ is_name (Made n) = nat_lt n (2 ^ 64)
 abbrev mutual
   pub is_spelled : Js → Bool
   is_spelled (JInt n) = is_exact n
+  is_spelled (JBool b) = true
   is_spelled (JText us) = list_all is_unit us
   is_spelled (JVar x) = is_name x
   is_spelled (JArrow p s) = is_name p && are_spelled s
+  is_spelled (JBlock s) = are_spelled s
   is_spelled (JCall f a) = is_spelled f && is_spelled a
   is_spelled (JBinary op a b) = is_spelled a && is_spelled b
+  is_spelled (JConditional c a b) = is_spelled c && (is_spelled a && is_spelled b)
   is_spelled (JObject fs) = fields_spelled fs
+  is_spelled (JProperty e k) = is_spelled e && list_all is_unit k
+  is_spelled (JList es) = list_spelled es
   is_spelled (JHelper h es) = list_spelled es
 
   pub list_spelled : JsList → Bool
@@ -57,43 +63,125 @@ abbrev mutual
 
   pub are_spelled : Stmts → Bool
   are_spelled (Const x e s) = is_name x && (is_spelled e && are_spelled s)
+  are_spelled (Let x e s) = is_name x && (is_spelled e && are_spelled s)
+  are_spelled (Assign x e s) = is_name x && (is_spelled e && are_spelled s)
   are_spelled (Return e) = is_spelled e
+  are_spelled (If c s t) = is_spelled c && (are_spelled s && are_spelled t)
+  are_spelled (While s) = are_spelled s
+  are_spelled Continue = true
 
-abbrev pub among : Name → List Name → Bool
-among x names = list_any (λ y. same_name x y) names
+abbrev pub lines_spelled : Lines → Bool
+lines_spelled NoLine = true
+lines_spelled (MoreLine x e ls) = is_name x && (is_spelled e && lines_spelled ls)
 
--- the names that a block declares, before the others
-abbrev pub with_declared : Stmts → List Name → List Name
-with_declared (Const x e s) scope = x ∷ with_declared s scope
-with_declared (Return e) scope = scope
+abbrev pub is_program_spelled : Program → Bool
+is_program_spelled p =
+    lines_spelled p.lines && (is_spelled p.main && (list_all is_unit p.name && (is_spelled p.flags && (fields_spelled p.ins
+    && list_all (λ o. list_all is_unit o) p.outs))))
 
--- each name is bound, in the scope
+-- the statements assign the name, in no function, and in no block of theirs that declares it
+abbrev pub assigns : Name → Stmts → Bool
+assigns x (Const y e s) = assigns x s
+assigns x (Let y e s) = assigns x s
+assigns x (Assign y e s) = same_name x y || assigns x s
+assigns x (Return e) = false
+assigns x (If c s t) = not (declares x s) && assigns x s || not (declares x t) && assigns x t
+assigns x (While s) = not (declares x s) && assigns x s
+assigns x Continue = false
+
+-- what may be done with a name: it is bound and assigned nowhere in the function that binds it; it is assigned there; it is so in a function
+-- round this one; nothing binds it
+pub data Use : Type 0 where
+  Fixed : Use
+  Changing : Use
+  Beyond : Use
+  Unbound : Use
+
+abbrev pub may_read : Use → Bool
+may_read Fixed = true
+may_read Changing = true
+may_read _ = false
+
+abbrev pub may_assign : Use → Bool
+may_assign Changing = true
+may_assign _ = false
+
+-- names, the innermost first
+abbrev pub Scope : Type 0
+Scope = List (Name × Use)
+
+abbrev pub use_of : Name → Scope → Use
+use_of x [] = Unbound
+use_of x (b ∷ bs) = if same_name x b.0 then b.1 else use_of x bs
+
+-- within a function nested in the scope
+abbrev pub nested : Use → Use
+nested Changing = Beyond
+nested u = u
+
+abbrev pub within : Scope → Scope
+within scope = map (λ b. (b.0, nested b.1)) scope
+
+-- a name as its scope, these statements, uses it
+abbrev pub bound_in : Stmts → Name → Name × Use
+bound_in s x = (x, (if assigns x s then Changing else Fixed))
+
+-- the names that statements declare, before the others; whole: the block that they belong to
+abbrev pub with_declared : Stmts → Stmts → Scope → Scope
+with_declared (Const x e s) whole scope = bound_in whole x ∷ with_declared s whole scope
+with_declared (Let x e s) whole scope = bound_in whole x ∷ with_declared s whole scope
+with_declared (Assign x e s) whole scope = with_declared s whole scope
+with_declared _ whole scope = scope
+
+-- each name is bound in the scope, and one that is assigned occurs in no function nested in its own
 abbrev mutual
-  pub is_bound : List Name → Js → Bool
+  pub is_bound : Scope → Js → Bool
   is_bound scope (JInt n) = true
+  is_bound scope (JBool b) = true
   is_bound scope (JText us) = true
-  is_bound scope (JVar x) = among x scope
-  is_bound scope (JArrow p s) = are_bound (with_declared s (p ∷ scope)) s
+  is_bound scope (JVar x) = may_read (use_of x scope)
+  is_bound scope (JArrow p s) = are_bound (with_declared s s (bound_in s p ∷ within scope)) s
+  is_bound scope (JBlock s) = are_bound (with_declared s s (within scope)) s
   is_bound scope (JCall f a) = is_bound scope f && is_bound scope a
   is_bound scope (JBinary op a b) = is_bound scope a && is_bound scope b
+  is_bound scope (JConditional c a b) = is_bound scope c && (is_bound scope a && is_bound scope b)
   is_bound scope (JObject fs) = fields_bound scope fs
+  is_bound scope (JProperty e k) = is_bound scope e
+  is_bound scope (JList es) = list_bound scope es
   is_bound scope (JHelper h es) = list_bound scope es
 
-  pub list_bound : List Name → JsList → Bool
+  pub list_bound : Scope → JsList → Bool
   list_bound scope NoJs = true
   list_bound scope (MoreJs e es) = is_bound scope e && list_bound scope es
 
-  pub fields_bound : List Name → Fields → Bool
+  pub fields_bound : Scope → Fields → Bool
   fields_bound scope NoField = true
   fields_bound scope (MoreField k e fs) = is_bound scope e && fields_bound scope fs
 
-  pub are_bound : List Name → Stmts → Bool
+  -- statements of a block that the scope has the names of
+  pub are_bound : Scope → Stmts → Bool
   are_bound scope (Const x e s) = is_bound scope e && are_bound scope s
+  are_bound scope (Let x e s) = is_bound scope e && are_bound scope s
+  are_bound scope (Assign x e s) = may_assign (use_of x scope) && (is_bound scope e && are_bound scope s)
   are_bound scope (Return e) = is_bound scope e
+  are_bound scope (If c s t) = is_bound scope c && (are_bound (with_declared s s scope) s && are_bound (with_declared t t scope) t)
+  are_bound scope (While s) = are_bound (with_declared s s scope) s
+  are_bound scope Continue = true
+
+abbrev pub lines_scope : Lines → Scope
+lines_scope NoLine = []
+lines_scope (MoreLine x e ls) = (x, Fixed) ∷ lines_scope ls
+
+abbrev pub lines_bound : Scope → Lines → Bool
+lines_bound scope NoLine = true
+lines_bound scope (MoreLine x e ls) = is_bound scope e && lines_bound scope ls
+
+-- the constants bind their names in all lines
+abbrev pub is_program_bound : Program → Bool
+is_program_bound p =
+    let scope = lines_scope p.lines in
+    lines_bound scope p.lines && (is_bound scope p.main && (is_bound scope p.flags && fields_bound scope p.ins))
 
 -- the program is in the subset
 abbrev pub in_subset : Program → Bool
-in_subset p =
-    (are_spelled p.body && are_bound (with_declared p.body []) p.body)
-    && (list_all is_unit p.name && (is_spelled p.flags && is_bound [] p.flags)
-    && (fields_spelled p.ins && fields_bound [] p.ins && list_all (λ o. list_all is_unit o) p.outs))
+in_subset p = is_program_spelled p && is_program_bound p

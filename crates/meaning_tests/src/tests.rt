@@ -97,7 +97,10 @@ fn text_runs(
         return Ok(false);
     };
     let source = elm_evaluator::run::run(alloc, &project, flags, &[], source_fuel, DEPTH)?;
-    let program = emit(alloc, &project)?;
+    let trees = emit(alloc, &project)?;
+    let Some(program) = js_evaluator::boxed::program_of(alloc, &trees)? else {
+        return Ok(false);
+    };
     let target = js_evaluator::run::run(alloc, &program, flags, &[], budget, DEPTH)?;
     Ok(same(&source, wanted) && same(&target, wanted))
 }

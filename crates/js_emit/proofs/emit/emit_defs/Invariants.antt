@@ -1,7 +1,7 @@
-use Rattle.std.proofs.Common.{◌≡◌, drop, map}
+use Rattle.std.proofs.Common.{◌≡◌, ◌∷◌, drop, map}
 use Rattle.elm_canon.specs.View.{defs_of}
-use Rattle.js_tree.specs.Tree.{Stmts}
-use Rattle.js_tree.specs.View.{statement_view, stmts_of}
+use Rattle.js_tree.specs.Tree.{Lines}
+use Rattle.js_tree.specs.Postorder.{LinesOf, below, build, lines, lines_then, top}
 use Rattle.js_emit.specs.Emit.{emit_defs}
 use Rattle.js_emit.specs.Literals.{DefsHaveExactLiterals}
 use Rattle.js_emit.proofs.emit.emit_defs.Given as goal
@@ -11,5 +11,6 @@ invariant-loop-def l =
     let left = defs_of (drop l.def-index l.def-items) in
     record {
       exact : DefsHaveExactLiterals left;
-      emitted : (end : Stmts) → stmts_of (map statement_view l.statements.items) (emit_defs left end) ≡ stmts_of (map statement_view l.initial.statements.items) (emit_defs (defs_of l.def-items) end);
+      kind : build l.trees ≡ LinesOf (lines (top (build l.trees))) ∷ below (build l.initial.trees);
+      emitted : (behind : Lines) → lines_then (lines (top (build l.trees))) (emit_defs left behind) ≡ lines_then (lines (top (build l.initial.trees))) (emit_defs (defs_of l.def-items) behind);
     }

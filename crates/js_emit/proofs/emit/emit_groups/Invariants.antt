@@ -1,6 +1,6 @@
-use Rattle.std.proofs.Common.{◌≡◌, drop, map}
-use Rattle.elm_canon.specs.View.{group_view, ref_view}
-use Rattle.js_tree.specs.View.{statement_view, stmts_of}
+use Rattle.std.proofs.Common.{◌≡◌, ◌∷◌, drop, map}
+use Rattle.elm_canon.specs.View.{group_view}
+use Rattle.js_tree.specs.Postorder.{LinesOf, build, lines, lines_then, top}
 use Rattle.js_emit.specs.Emit.{emit_groups}
 use Rattle.js_emit.specs.Literals.{GroupsHaveExactLiterals}
 use Rattle.js_emit.proofs.emit.emit_groups.Given as goal
@@ -10,5 +10,6 @@ invariant-loop-group l =
     let left = map group_view (drop l.group-index l.group-items) in
     record {
       exact : GroupsHaveExactLiterals left;
-      emitted : stmts_of (map statement_view l.statements.items) (emit_groups left (ref_view l.fn.main)) ≡ emit_groups (map group_view l.group-items) (ref_view l.fn.main);
+      kind : build l.trees ≡ LinesOf (lines (top (build l.trees))) ∷ build l.fn.trees;
+      emitted : lines_then (lines (top (build l.trees))) (emit_groups left) ≡ emit_groups (map group_view l.group-items);
     }

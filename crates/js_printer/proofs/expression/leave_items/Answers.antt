@@ -1,0 +1,23 @@
+use Rattle.std.proofs.Common.{◌-◌, ap, ◌∙◌, sym, append-nil}
+use Rattle.js_tree.specs.Tree.{NoJs}
+use Rattle.js_tree.specs.Text.{list_text}
+use Rattle.js_tree.specs.Postorder.{top, items, items_then}
+use Rattle.js_printer.specs.declared.task.Task as task
+use Rattle.js_printer.proofs.Splits.{skipped, pushed}
+use Rattle.js_printer.proofs.Others.{no_item}
+use Rattle.js_printer.proofs.Parts.{here, starts, items_splits}
+use Rattle.js_printer.proofs.expression.leave_items.Goals as goal
+
+pub returns-in_default : goal.returns-in_default
+returns-in_default c = λ text. skipped c.args.trees.now (task.Task.Items c.args.place) text c.args.tasks.now.items (ap (λ ts. list_text (items_then (items (top ts)) NoJs)) (c.in_default.ensures.none c.requires))
+
+pub returns-in_default-node : goal.returns-in_default-node
+returns-in_default-node c =
+    let no = no_item c.in-Some.node.now _ c.in_default-node.not-Item in
+    λ text. skipped c.args.trees.now (task.Task.Items c.args.place) text c.args.tasks.now.items (ap (λ ts. list_text (items_then (items (top ts)) NoJs)) c.in-Some.ensures.some ∙ ap (λ x. list_text (items_then x NoJs)) no)
+
+pub returns : goal.returns
+returns c =
+    let n = here c.args.trees.now c.args.place _ _ c.in-Some.ensures.some c.in-Item.is c.in-Some.ensures.inside c.requires in
+    let start_below = starts c.args.trees.now (c.args.place - 1) c.below.result c.below.ensures.trees c.below.ensures.before in
+    λ text. pushed c.args.trees.now _ text _ _ c.args.tasks.now.items _ _ _ (items_splits c.args.trees.now c.args.place c.below.result n start_below) (sym (append-nil text)) c.push_parts.ensures

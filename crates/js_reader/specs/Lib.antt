@@ -1,0 +1,5 @@
+pub mod NameView
+pub mod View
+pub mod Empty
+pub mod Words
+pub mod Read

@@ -1,0 +1,41 @@
+//! The text of an output, read back to its tree.
+#![tactic(auto)]
+
+ghost use Rattle.std.specs.Prelude.{◌≡◌, ◌≤◌, IfErr, IfOk, length};
+ghost use Rattle.js_tree.specs.Postorder.{build, top};
+ghost use Rattle.js_reader.specs.Read.{IsRead, IsRefused};
+
+mod frames;
+mod mode;
+mod name;
+mod reader;
+mod refusal;
+#[cfg(test)]
+mod tests;
+mod text;
+mod word;
+
+use js_scope::is_bound;
+use js_tree::trees::Trees;
+pub use refusal::Refusal;
+use std::alloc::Global;
+use text::{place_behind, read_text};
+
+/// Reads the text of a program.
+///
+/// The bytes are those of at most one program of the subset, and that is the last of the trees. If they are those of none, the error has the
+/// place where they stop to be a text: where the longest part of them, from their start, ends that begins some text. Where they are a text
+/// whose names are not all bound, that is their end. (ECMA-262: 12.7, 12.9, 13.2 to 13.15, 14.3.1, 14.6 to 14.10, 15.3.)
+///
+/// Time and memory grow with the number of bytes, and no text needs more of the machine's stack than another.
+pub fn read(alloc: Global, bytes: &[u8]) -> Result<Trees, Refusal>
+    requires { length bytes.now ≤ 67108864 }
+    ensures read { IfOk result (λ trees. IsRead (top (build trees)) bytes.now) }
+    ensures refused { IfErr result (λ refusal. IsRefused refusal bytes.now) }
+{
+    let trees = read_text(alloc, bytes)?;
+    if is_bound(alloc, &trees)? {
+        return Ok(trees);
+    }
+    Err(Refusal::At(place_behind(bytes)))
+}

@@ -1,0 +1,9 @@
+pub mod Names
+pub mod Marks
+pub mod Allowed
+pub mod Programs
+pub mod Indexes
+pub mod Bindings
+pub mod Ends
+pub mod Going
+pub mod Beginning
