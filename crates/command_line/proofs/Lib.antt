@@ -1,0 +1,4 @@
+pub mod NumberLemmas
+pub mod Bounds
+pub mod Leaf
+pub mod Line

@@ -1,0 +1,5 @@
+pub mod Command
+pub mod Given
+pub mod Clap
+pub mod Examples
+pub mod Laws
