@@ -1,0 +1,5 @@
+pub mod Texts
+pub mod Printing
+pub mod Depths
+pub mod Converting
+pub mod Reading

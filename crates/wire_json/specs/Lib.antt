@@ -1,0 +1,5 @@
+pub mod Units
+pub mod FromJson
+pub mod Text
+pub mod Within
+pub mod Tasks
