@@ -1,0 +1,7 @@
+//! The computations behind a running output: numbers and texts as JavaScript has them.
+#![tactic(auto)]
+
+pub mod numbers;
+#[cfg(test)]
+mod tests;
+pub mod texts;

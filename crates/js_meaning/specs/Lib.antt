@@ -1,0 +1,10 @@
+pub mod Values
+pub mod Numbers
+pub mod Texts
+pub mod Lists
+pub mod Shapes
+pub mod Codecs
+pub mod Helpers
+pub mod Eval
+pub mod Run
+pub mod Examples
