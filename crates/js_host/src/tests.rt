@@ -67,7 +67,7 @@ fn sends_a_batch(rt: HostRuntime) -> Result<(), Fail> {
     assert!(rt; matches!(stage_of(alloc, &ports, &pair), Err(Halt::Stuck)));
     ports.push(port(alloc, P)?)?;
     let stage = stage_of(alloc, &ports, &pair)?;
-    assert!(rt; matches!(stage.model, Value::Number(7)));
+    assert!(rt; matches!(&stage.model, Value::Number(7)));
     let [first, second] = stage.sends.as_slice() else {
         return Err(Fail::new("two sends"));
     };
@@ -85,7 +85,8 @@ fn sends_a_batch(rt: HostRuntime) -> Result<(), Fail> {
     assert_eq!(rt; two.value, Wire::Int(2));
     let parcels = flat(alloc, &commands(alloc)?)?;
     let heard = hearers(alloc, Q, &parcels)?;
-    assert!(rt; matches!(heard.as_slice(), [Value::Number(1)]));
+    assert_eq!(rt; heard.len(), 1);
+    assert!(rt; matches!(heard.first(), Some(Value::Number(1))));
     Ok(())
 }
 
