@@ -1,0 +1,7 @@
+#!/usr/bin/env bash
+# Compares what node gives for calls of the functions of the fixed text with the tables in crates/js_help/src/tests.rt. Needs node; skips without it.
+set -eu
+
+root="$(cd "$(dirname "${BASH_SOURCE[0]}")/.." && pwd)"
+command -v node >/dev/null || { echo "skipped: node is missing"; exit 0; }
+node "$root/bench/helper_table.mjs"

@@ -1,0 +1,9 @@
+pub mod EndLaws
+pub mod StepLaws
+pub mod ListParts
+pub mod CodecLaws
+pub mod ChangeLaws
+pub mod LoopLaws
+pub mod PartLaws
+pub mod EncodeLaws
+pub mod DecodeLaws

@@ -1,0 +1,10 @@
+//! Lists, dictionaries, decoders and encoders, as an output's run makes and reads them.
+#![tactic(auto)]
+
+pub mod codec;
+pub mod decode;
+pub mod encode;
+pub mod lists;
+#[cfg(test)]
+mod tests;
+pub mod update;

@@ -1,0 +1,10 @@
+pub mod Views
+pub mod Tags
+pub mod Digits
+pub mod Parts
+pub mod Nodes
+pub mod Numbers
+pub mod Tasks
+pub mod Comparing
+pub mod Orders
+pub mod Sorting

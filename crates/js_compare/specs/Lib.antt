@@ -1,0 +1,10 @@
+pub mod Seen
+pub mod Weights
+pub mod Tags
+pub mod Nodes
+pub mod Named
+pub mod Forms
+pub mod Tasks
+pub mod Steps
+pub mod Orders
+pub mod Founds
