@@ -1,0 +1,28 @@
+// Runs an output in node as `elmc run` does: node run_in_node.mjs JSFILE INPUTS. It prints the same lines for a start that is refused or
+// crashes, for sends and for inputs that are refused or crash; of fuel, numbers that are not exact and missing rules node knows nothing.
+import { readFileSync } from "node:fs";
+import vm from "node:vm";
+const [js, inputs] = process.argv.slice(2);
+const lines = readFileSync(inputs, "utf8").split("\n");
+if (lines[lines.length - 1] === "") lines.pop();
+const text = (w) => JSON.stringify(w, (k, v) => v !== null && typeof v === "object" && !Array.isArray(v)
+  ? Object.fromEntries(Object.keys(v).sort().map((key) => [key, v[key]])) : v)
+  .replace(/[\u007f-\uffff]/g, (c) => "\\u" + c.charCodeAt(0).toString(16).toUpperCase().padStart(4, "0"));
+const scope = {};
+const settle = () => new Promise((done) => setTimeout(done, 0));
+new vm.Script(readFileSync(js, "utf8")).runInNewContext(scope);
+const name = Object.keys(scope.Elm)[0];
+let app;
+try { app = scope.Elm[name].init({ flags: JSON.parse(lines[0]) }); } catch (e) {
+  console.log(e.message === "flags refused" ? "! refused flags" : "! crash " + text(e.message)); process.exit(1);
+}
+for (const [port, functions] of Object.entries(app.ports)) if (functions.subscribe) functions.subscribe((w) => console.log(port + " " + text(w)));
+await settle();
+for (const line of lines.slice(1)) {
+  const at = line.indexOf(" "), port = line.slice(0, at);
+  try { app.ports[port].send(JSON.parse(line.slice(at + 1))); } catch (e) {
+    if (e.message === port + " refused") console.log("! refused " + port);
+    else { await settle(); console.log("! crash " + text(e.message)); process.exit(1); }
+  }
+  await settle();
+}

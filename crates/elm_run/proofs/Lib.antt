@@ -1,0 +1,4 @@
+pub mod Answers
+pub mod Remains
+pub mod Giving
+pub mod Sources
