@@ -1,3 +1,4 @@
-pub mod FourWords
 pub mod Pieces
 pub mod Outcomes
+pub mod Ran
+pub mod Asked

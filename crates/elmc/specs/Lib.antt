@@ -1,2 +1,3 @@
-pub mod Command
+pub mod Make
+pub mod Run
 pub mod Causes

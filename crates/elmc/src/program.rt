@@ -1,20 +1,25 @@
 //! The one call that the program makes.
 
-ghost use Rattle.std.specs.Prelude.{◌≡◌, ◌≢◌, ◌<◌, ◌≤◌, ◌⊎◌, ℕ, List, Some, map, string_bytes};
+ghost use Rattle.std.specs.Prelude.{◌≡◌, ◌≢◌, ◌<◌, ◌≤◌, ◌⊎◌, ℕ, List, None, Some, map, string_bytes, true};
+ghost use Rattle.command_line.specs.Command.{make, run};
+ghost use Rattle.command_line.specs.Given.{command_line};
 ghost use Rattle.elm_files.specs.Answers.{NoneFull, SomeRose};
 ghost use Rattle.elm_files.specs.Texts.{LongerByPart, longer};
-ghost use Rattle.elm_files.specs.Tree.{SameElsewhere, Tree, with_file};
+ghost use Rattle.elm_files.specs.Tree.{SameElsewhere, Tree};
 ghost use Rattle.elm_make.specs.Clean.{Clean, Text as text_of};
 ghost use Rattle.elm_make.specs.Paths.{normal_path};
 ghost use Rattle.elm_make.specs.Translated.{IsTranslation};
-ghost use Rattle.elmc.specs.Causes.{Complains, IsDone, IsEither, IsOldOrWritten, IsRefusal, IsRefused, IsWrittenAndTold, Makes, SomeCountRose, TellsFile, memory_line};
-ghost use Rattle.elmc.specs.Command.{IsMake, NoMake};
+ghost use Rattle.elm_run.specs.Runs.{Outcome, Runs};
+ghost use Rattle.elmc.specs.Causes.{Complains, IsEither, SomeCountRose, TellsFile, memory_line};
+ghost use Rattle.elmc.specs.Make.{IsDone, IsOldOrWritten, IsRefusal, IsRefused, IsWrittenAndTold, Makes};
+ghost use Rattle.elmc.specs.Run.{Executes, IsNotReady, IsTold, IsToldByPart, status_of};
 
-use crate::report::{file_failed, out_of_memory, printed, said};
-use crate::words::command;
+use crate::make::make_program;
+use crate::report::{out_of_memory, said};
+use crate::run::run_program;
 use build_workers::Gate;
+use command_line::{Command, command};
 use elm_files::{Files, Sink};
-use elm_make::{BuildEnd, Outcome, build};
 use std::alloc::Global;
 use std::sync::Wait;
 use std::thread::Threads;
@@ -29,9 +34,9 @@ usage: elmc gen COUNT SEED [--jobs=N]
 /// Runs the command that `words` ask for, of which the first is the program's name, over `files`. What a command
 /// prints goes to `out`, and what it refuses to `err`. `gate` stands round each compile.
 ///
-/// The answer is the status of the process: 0 where the command is done; 1 where it is refused; 2 where the words are
-/// no command; 3 where a call on a file or a sink failed; 4 where memory ran out. The first of these to occur ends
-/// the command.
+/// The answer is the status of the process: 0 where the command is done; 1 where it is refused, or where a run ended
+/// before each input was given; 2 where the words are no command; 3 where a call on a file or a sink failed; 4 where
+/// memory ran out. The first of these to occur ends the command.
 pub fn top<R: Threads + Wait + Sync, F: Files, O: Sink, E: Sink, G: Gate + Sync>(
     rt: &R,
     alloc: Global,
@@ -46,14 +51,16 @@ pub fn top<R: Threads + Wait + Sync, F: Files, O: Sink, E: Sink, G: Gate + Sync>
     requires err { E.faults err.old < 18446744073709551615 }
     ensures known { result ≤ 4 }
 
-    // Status 0: the files come to a text, which the output's file holds now, and `out` has its line.
-    ensures done { result ≡ 0 → Makes (map string_bytes words.now) (IsDone (F.tree files.old) (F.tree files.new) (O.text out.old) (O.text out.new) (E.text err.old) (E.text err.new)) }
+    // Status 0: the files come to a text, which the output's file holds now, and `out` has its line; or to a run in which
+    // each input was given, and `out` has its text.
+    ensures done { result ≡ 0 → Makes (map string_bytes words.now) (IsDone (F.tree files.old) (F.tree files.new) (O.text out.old) (O.text out.new) (E.text err.old) (E.text err.new)) ⊎ Executes (map string_bytes words.now) (IsTold true (F.tree files.old) (F.tree files.new) (O.text out.old) (O.text out.new) (E.text err.old) (E.text err.new)) }
 
-    // Status 1: they come to no text, and `err` has their lines.
-    ensures refused { result ≡ 1 → Makes (map string_bytes words.now) (IsRefused (F.tree files.old) (F.tree files.new) (O.text out.old) (O.text out.new) (E.text err.old) (E.text err.new)) }
+    // Status 1: they come to no text or no run, and `err` has their lines; or to a run that ended before each input was
+    // given, and `out` has its text.
+    ensures refused { result ≡ 1 → Makes (map string_bytes words.now) (IsRefused (F.tree files.old) (F.tree files.new) (O.text out.old) (O.text out.new) (E.text err.old) (E.text err.new)) ⊎ Executes (map string_bytes words.now) (IsNotReady (F.tree files.old) (F.tree files.new) (O.text out.old) (O.text out.new) (E.text err.old) (E.text err.new)) }
 
     // Status 2: the words are no command, and the usage is put on `err`.
-    ensures words { result ≡ 2 → NoMake (map string_bytes words.now) }
+    ensures words { result ≡ 2 → command_line (map string_bytes words.now) ≡ None }
     ensures usage { result ≡ 2 → E.text err.new ≡ longer (E.text err.old) USAGE.now }
 
     // Status 3: a count of faults rose. No count rises with another status, but that of `err` where want of memory is told.
@@ -64,35 +71,47 @@ pub fn top<R: Threads + Wait + Sync, F: Files, O: Sink, E: Sink, G: Gate + Sync>
     // What is put then: where a file failed, the line that names it; else, on `out` or on `err`, the lines of the other
     // statuses; or a part of them.
     ensures names_file { SomeRose (F.faults files.old) (F.faults files.new) → TellsFile (F.faults files.old) (F.faults files.new) (E.text err.old) (E.text err.new) }
-    ensures on_out { (O.text out.new ≡ O.text out.old) ⊎ Makes (map string_bytes words.now) (IsWrittenAndTold (F.tree files.old) (F.tree files.new) (O.text out.old) (O.text out.new)) }
+    ensures on_out { (O.text out.new ≡ O.text out.old) ⊎ (Makes (map string_bytes words.now) (IsWrittenAndTold (F.tree files.old) (F.tree files.new) (O.text out.old) (O.text out.new)) ⊎ Executes (map string_bytes words.now) (IsToldByPart (F.tree files.old) (O.text out.old) (O.text out.new))) }
     ensures on_err { result ≡ 3 → F.faults files.new ≡ F.faults files.old → (E.text err.new ≡ E.text err.old) ⊎ Complains (map string_bytes words.now) (F.tree files.old) (E.text err.old) (E.text err.new) }
 
     // Status 4: want of memory is told, or a part of its line.
     ensures memory { result ≡ 4 → LongerByPart (E.text err.old) memory_line (E.text err.new) }
 
-    // What is left, whatever the status: no file changes but the output's, and that, unless a file failed, only to the
-    // text that the files come to.
-    ensures elsewhere { (entry output : List ℕ) → IsMake (map string_bytes words.now) entry output → SameElsewhere (normal_path output) (F.tree files.old) (F.tree files.new) }
+    // What is left, whatever the status: no file changes but the output's of `make`, and that, unless a file failed, only
+    // to the text that the files come to.
+    ensures elsewhere { (entry output : List ℕ) (jobs : ℕ) → command_line (map string_bytes words.now) ≡ Some (make entry output jobs) → SameElsewhere (normal_path output) (F.tree files.old) (F.tree files.new) }
     ensures kept { F.faults files.new ≡ F.faults files.old → IsOldOrWritten (map string_bytes words.now) (F.tree files.old) (F.tree files.new) }
-    ensures untouched { NoMake (map string_bytes words.now) → (F.tree files.new ≡ F.tree files.old) × (O.text out.new ≡ O.text out.old) }
+    ensures reads { (program inputs : List ℕ) (fuel : ℕ) → command_line (map string_bytes words.now) ≡ Some (run program inputs fuel) → F.tree files.new ≡ F.tree files.old }
+    ensures untouched { command_line (map string_bytes words.now) ≡ None → (F.tree files.new ≡ F.tree files.old) × (O.text out.new ≡ O.text out.old) }
 
-    // The statuses that come where the words are no command, where the files come to a text, and where they do not.
-    ensures no_words { NoMake (map string_bytes words.now) → result ≢ 2 → IsEither result 3 4 }
-    ensures complete { (tree : Tree) (entry output text : List ℕ) → F.tree files.old ≡ Some tree → IsMake (map string_bytes words.now) entry output → Clean tree entry output (text_of text) → result ≢ 0 → IsEither result 3 4 }
-    ensures refuses { (tree : Tree) (entry output lines : List ℕ) → F.tree files.old ≡ Some tree → IsMake (map string_bytes words.now) entry output → IsRefusal tree entry output lines → result ≢ 1 → IsEither result 3 4 }
+    // The statuses that come where the words are no command, where the files come to a text, where they do not, and where
+    // they come to a run or to none.
+    ensures no_words { command_line (map string_bytes words.now) ≡ None → result ≢ 2 → IsEither result 3 4 }
+    ensures complete { (tree : Tree) (entry output text : List ℕ) (jobs : ℕ) → F.tree files.old ≡ Some tree → command_line (map string_bytes words.now) ≡ Some (make entry output jobs) → Clean tree entry output (text_of text) → result ≢ 0 → IsEither result 3 4 }
+    ensures refuses { (tree : Tree) (entry output lines : List ℕ) (jobs : ℕ) → F.tree files.old ≡ Some tree → command_line (map string_bytes words.now) ≡ Some (make entry output jobs) → IsRefusal tree entry output lines → result ≢ 1 → IsEither result 3 4 }
+    ensures runs { (tree : Tree) (program inputs : List ℕ) (fuel : ℕ) (outcome : Outcome) → F.tree files.old ≡ Some tree → command_line (map string_bytes words.now) ≡ Some (run program inputs fuel) → Runs tree program inputs fuel outcome → result ≢ status_of outcome → IsEither result 3 4 }
 
     // The text means what the module means.
-    ensures meaning { (tree : Tree) (entry output text : List ℕ) → F.tree files.old ≡ Some tree → IsMake (map string_bytes words.now) entry output → Clean tree entry output (text_of text) → IsTranslation (tree (normal_path entry)) text }
+    ensures meaning { (tree : Tree) (entry output text : List ℕ) (jobs : ℕ) → F.tree files.old ≡ Some tree → command_line (map string_bytes words.now) ≡ Some (make entry output jobs) → Clean tree entry output (text_of text) → IsTranslation (tree (normal_path entry)) text }
 {
-    let Some(make) = command(words) else {
-        return said(err, USAGE, 2);
+    let Ok(asked) = command(alloc, words) else {
+        return out_of_memory(err);
     };
-    match build(rt, alloc, files, make.entry, make.output, 1, gate) {
-        Ok(built) => match &built.outcome {
-            Outcome::Text(_) => printed(out, err, &built.lines),
-            Outcome::Stopped(_) | Outcome::Faults(_) => said(err, &built.lines, 1),
-        },
-        Err(BuildEnd::File(path)) => file_failed(err, &path),
-        Err(BuildEnd::NoMemory) => out_of_memory(err),
+    match asked {
+        Some(
+            Command::Make {
+                entry,
+                output,
+                jobs,
+            },
+        ) => make_program(rt, alloc, files, out, err, entry, output, jobs, gate),
+        Some(
+            Command::Run {
+                program,
+                inputs,
+                fuel,
+            },
+        ) => run_program(alloc, files, out, err, program, inputs, fuel),
+        None => said(err, USAGE, 2),
     }
 }

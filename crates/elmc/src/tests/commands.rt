@@ -18,15 +18,83 @@ fn builds_the_example(rt: HostRuntime) -> Result<(), Fail> {
 }
 
 #[test]
+fn takes_the_words_of_make_in_any_order(rt: HostRuntime) -> Result<(), Fail> {
+    let alloc = rt.alloc();
+    let text = module(alloc, "42")?;
+    let want = output(alloc, "42")?;
+    let words: [&[&str]; 3] = [
+        &[
+            "elmc",
+            "make",
+            "src/Main.elm",
+            "--output=out.js",
+            "--jobs=4",
+        ],
+        &[
+            "elmc",
+            "make",
+            "--jobs=64",
+            "--output=out.js",
+            "src/Main.elm",
+        ],
+        &["elmc", "make", "--output", "out.js", "--", "src/Main.elm"],
+    ];
+    for words in words {
+        let ran = run(&rt, alloc, words, text.as_bytes(), NONE_FAILS)?;
+        assert_eq!(rt; ran.status, 0);
+        assert!(rt; ran.out.bytes() == b"compiled to out.js, modules: 1\n".as_slice());
+        assert!(rt; ran.err.bytes().is_empty());
+        assert!(rt; ran.files.get("out.js") == Some(want.as_slice()));
+    }
+    Ok(())
+}
+
+#[test]
 fn refuses_other_words(rt: HostRuntime) -> Result<(), Fail> {
     let alloc = rt.alloc();
-    let words: [&[&str]; 7] = [
+    let words: [&[&str]; 19] = [
         &[],
         &["elmc"],
+        &["elmc", "--help"],
+        &["elmc", "--version"],
+        &["elmc", "src/Main.elm", "--output=out.js"],
         &["elmc", "make"],
+        &["elmc", "make", "--help"],
         &["elmc", "make", "src/Main.elm"],
         &["elmc", "make", "-x.elm", "--output=out.js"],
         &["elmc", "make", "src/Main.elm", "--out=out.js"],
+        &[
+            "elmc",
+            "make",
+            "src/Main.elm",
+            "--output=out.js",
+            "--jobs=0",
+        ],
+        &[
+            "elmc",
+            "make",
+            "src/Main.elm",
+            "--output=out.js",
+            "--jobs=65",
+        ],
+        &[
+            "elmc",
+            "make",
+            "src/Main.elm",
+            "--output=out.js",
+            "--jobs=04",
+        ],
+        &[
+            "elmc",
+            "make",
+            "src/Main.elm",
+            "--output=out.js",
+            "--fuel=1",
+        ],
+        &["elmc", "run"],
+        &["elmc", "run", "out.js"],
+        &["elmc", "run", "out.js", "in.txt", "more"],
+        &["elmc", "run", "out.js", "in.txt", "--fuel=0"],
         &["elmc", "run", "src/Main.elm", "--output=out.js"],
     ];
     for words in words {

@@ -4,6 +4,7 @@ mod commands;
 mod definitions;
 mod expected;
 mod failures;
+mod running;
 mod texts;
 mod workers;
 
@@ -69,9 +70,22 @@ fn run<R: Threads + Wait + Sync>(
     module: &[u8],
     failing: Failing,
 ) -> Result<Ran, AllocError> {
+    run_over(rt, alloc, words, b"old", "src/Main.elm", module, failing)
+}
+
+/// Runs the words over this output and one more file, at `path`.
+fn run_over<R: Threads + Wait + Sync>(
+    rt: &R,
+    alloc: Global,
+    words: &[&str],
+    output: &[u8],
+    path: &str,
+    text: &[u8],
+    failing: Failing,
+) -> Result<Ran, AllocError> {
     let mut files = MemFiles::new(alloc, numbers(alloc, failing.files)?);
-    files.insert("out.js", b"old")?;
-    files.insert("src/Main.elm", module)?;
+    files.insert("out.js", output)?;
+    files.insert(path, text)?;
     let mut out = MemSink::new(alloc, numbers(alloc, failing.out)?);
     let mut err = MemSink::new(alloc, numbers(alloc, failing.err)?);
     let words = owned(alloc, words)?;

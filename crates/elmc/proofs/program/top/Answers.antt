@@ -1,120 +1,129 @@
-use Rattle.std.proofs.Common.{◌≡◌, ℕ, List, inl, inr, refl, ap, ◌∙◌, subst, arith}
-use Rattle.elm_files.specs.Texts.{LongerByPart, longer}
+use Rattle.std.proofs.Common.{◌≡◌, None, Some, inl, inr, map, sym, rules}
+use Rattle.std.specs.Prelude.{string_bytes}
+use Rattle.command_line.specs.Command.{make, run}
+use Rattle.command_line.specs.Given.{command_line}
+use Rattle.elm_make.specs.Clean.{Clean}
+use Rattle.elm_make.specs.Clean.{Text as text_of}
 use Rattle.elm_make.proofs.Translated.{clean_translated}
-use Rattle.elmc.specs.Causes.{IsWritten, Makes, usage, refusal}
-use Rattle.elmc.specs.Causes as cause
-use Rattle.elmc.proofs.Outcomes as outcome
+use Rattle.elm_run.specs.Runs.{Runs}
+use Rattle.elmc.specs.Causes.{usage}
+use Rattle.elmc.specs.Make.{IsRefusal, IsWritten, IsWrittenAndTold}
+use Rattle.elmc.specs.Run.{IsToldByPart}
+use Rattle.elmc.proofs.Asked as asked
 use Rattle.elmc.proofs.program.top.Goals as goal
 
 -- ---- the words are no command
 
-pub returns-in_default-clause-on_err : goal.returns-in_default-clause-on_err
-returns-in_default-clause-on_err g c = λ e _. inr (_, usage c.in_default.ensures.none, c.said.ensures.part e)
+pub returns-in-None-clause-on_err : goal.returns-in-None-clause-on_err
+returns-in-None-clause-on_err g c = λ e _.
+    let none : command_line (map string_bytes c.args.words.now) ≡ None = sym (rw c.in-None.is at c.in-Ok.ensures) in
+    inr (_, usage none, c.said.ensures.part e)
 
-pub returns-in_default-clause-complete : goal.returns-in_default-clause-complete
-returns-in_default-clause-complete g c = λ tree entry output text e make clean _. absurd (c.in_default.ensures.none entry output make)
+-- ---- they are those of `make`
 
-pub returns-in_default-clause-refuses : goal.returns-in_default-clause-refuses
-returns-in_default-clause-refuses g c = λ tree entry output lines e make clean _. absurd (c.in_default.ensures.none entry output make)
+pub returns-in-Some-Make-clause-done : goal.returns-in-Some-Make-clause-done
+returns-in-Some-Make-clause-done g c = λ e.
+    let make' = c.in-Some-Make in
+    let words = map string_bytes c.args.words.now in
+    let asks : command_line words ≡ Some (make make'.entry.now make'.output.now make'.jobs) = search rules in
+    inl (asked.makes words make'.entry.now make'.output.now make'.jobs asks _ (c.make_program.ensures.done e))
 
--- ---- the build has a text
+pub returns-in-Some-Make-clause-refused : goal.returns-in-Some-Make-clause-refused
+returns-in-Some-Make-clause-refused g c = λ e.
+    let make' = c.in-Some-Make in
+    let words = map string_bytes c.args.words.now in
+    let asks : command_line words ≡ Some (make make'.entry.now make'.output.now make'.jobs) = search rules in
+    inl (asked.makes words make'.entry.now make'.output.now make'.jobs asks _ (c.make_program.ensures.refused e))
 
-pub returns-in-Text-clause-done : goal.returns-in-Text-clause-done
-returns-in-Text-clause-done g c = λ e.
-    let built = c.in-Ok.built in
-    let entry = c.in-Some.make.entry.now in
-    let output = c.in-Some.make.output.now in
-    let line = c.deref.ensures.value ∙ outcome.line_of built.lines.items _ built.outcome c.in-Text.field-0 c.in-Text.is c.in-Ok.ensures.says in
-    record {
-      entry = entry;
-      output = output;
-      asked = c.in-Some.ensures.found;
-      holds = record {
-        written = outcome.written (g.F.Files.tree c.args.files.now) (g.F.Files.tree c.build.new.files) entry output built.lines.items built.outcome c.in-Text.field-0 c.in-Text.is c.in-Ok.ensures.clean c.in-Ok.ensures.leaves;
-        printed = c.printed.ensures.done e ∙ ap (λ l. longer (g.O.Sink.text c.args.out.now) l) line;
-        quiet = c.printed.ensures.quiet (λ four. omega (arith, e, four));
-      };
-    }
+pub returns-in-Some-Make-clause-on_out : goal.returns-in-Some-Make-clause-on_out
+returns-in-Some-Make-clause-on_out g c =
+    let make' = c.in-Some-Make in
+    let words = map string_bytes c.args.words.now in
+    let asks : command_line words ≡ Some (make make'.entry.now make'.output.now make'.jobs) = search rules in
+    asked.or_makes_else words make'.entry.now make'.output.now make'.jobs asks _ _
+    (IsWrittenAndTold (g.F.Files.tree c.args.files.now) (g.F.Files.tree c.make_program.new.files) (g.O.Sink.text c.args.out.now) (g.O.Sink.text c.make_program.new.out)) c.make_program.ensures.on_out
 
-pub returns-in-Text-clause-on_out : goal.returns-in-Text-clause-on_out
-returns-in-Text-clause-on_out g c =
-    let built = c.in-Ok.built in
-    let entry = c.in-Some.make.entry.now in
-    let output = c.in-Some.make.output.now in
-    let line = c.deref.ensures.value ∙ outcome.line_of built.lines.items _ built.outcome c.in-Text.field-0 c.in-Text.is c.in-Ok.ensures.says in
-    inr (record {
-      entry = entry;
-      output = output;
-      asked = c.in-Some.ensures.found;
-      holds = record {
-        written = outcome.written (g.F.Files.tree c.args.files.now) (g.F.Files.tree c.build.new.files) entry output built.lines.items built.outcome c.in-Text.field-0 c.in-Text.is c.in-Ok.ensures.clean c.in-Ok.ensures.leaves;
-        told = subst (λ l. LongerByPart (g.O.Sink.text c.args.out.now) l (g.O.Sink.text c.printed.new.out)) line c.printed.ensures.told;
-      };
-    })
+pub returns-in-Some-Make-clause-on_err : goal.returns-in-Some-Make-clause-on_err
+returns-in-Some-Make-clause-on_err g c = λ e same.
+    let make' = c.in-Some-Make in
+    let words = map string_bytes c.args.words.now in
+    let asks : command_line words ≡ Some (make make'.entry.now make'.output.now make'.jobs) = search rules in
+    asked.or_complains words make'.entry.now make'.output.now make'.jobs asks _
+    (g.F.Files.tree c.args.files.now) (g.E.Sink.text c.args.err.now) (g.E.Sink.text c.make_program.new.err) (c.make_program.ensures.on_err e same)
 
-pub returns-in-Text-clause-kept : goal.returns-in-Text-clause-kept
-returns-in-Text-clause-kept g c = λ _.
-    let built = c.in-Ok.built in
-    let entry = c.in-Some.make.entry.now in
-    let output = c.in-Some.make.output.now in
-    inr (record {
-      entry = entry;
-      output = output;
-      asked = c.in-Some.ensures.found;
-      holds = outcome.written (g.F.Files.tree c.args.files.now) (g.F.Files.tree c.build.new.files) entry output built.lines.items built.outcome c.in-Text.field-0 c.in-Text.is c.in-Ok.ensures.clean c.in-Ok.ensures.leaves;
-    })
+pub returns-in-Some-Make-clause-kept : goal.returns-in-Some-Make-clause-kept
+returns-in-Some-Make-clause-kept g c = λ same.
+    let make' = c.in-Some-Make in
+    let words = map string_bytes c.args.words.now in
+    let asks : command_line words ≡ Some (make make'.entry.now make'.output.now make'.jobs) = search rules in
+    asked.or_makes words make'.entry.now make'.output.now make'.jobs asks _
+    (IsWritten (g.F.Files.tree c.args.files.now) (g.F.Files.tree c.make_program.new.files)) (c.make_program.ensures.kept same)
 
--- ---- the build has none
+pub returns-in-Some-Make-clause-complete : goal.returns-in-Some-Make-clause-complete
+returns-in-Some-Make-clause-complete g c = λ tree entry output text jobs e asks' clean.
+    let make' = c.in-Some-Make in
+    let words = map string_bytes c.args.words.now in
+    let asks : command_line words ≡ Some (make make'.entry.now make'.output.now make'.jobs) = search rules in
+    c.make_program.ensures.complete tree text e
+    (asked.made words make'.entry.now make'.output.now make'.jobs asks (λ x y. Clean tree x y (text_of text)) entry output jobs asks' clean)
 
-pub returns-in-Ok-clause-refused : goal.returns-in-Ok-clause-refused
-returns-in-Ok-clause-refused g c = λ e.
-    let built = c.in-Ok.built in
-    let entry = c.in-Some.make.entry.now in
-    let output = c.in-Some.make.output.now in
-    record {
-      entry = entry;
-      output = output;
-      asked = c.in-Some.ensures.found;
-      holds = record {
-        lines = built.lines.items;
-        refusal = outcome.refusal (g.F.Files.tree c.args.files.now) entry output built.lines.items built.outcome c.in-Stopped.is c.in-Ok.ensures.clean;
-        left = outcome.unchanged (g.F.Files.tree c.args.files.now) (g.F.Files.tree c.build.new.files) _ built.lines.items built.outcome c.in-Stopped.is c.in-Ok.ensures.leaves;
-        said = c.said-in-Stopped.ensures.said e ∙ ap (λ l. longer (g.E.Sink.text c.args.err.now) l) c.deref-in-Stopped.ensures.value;
-        quiet = refl;
-      };
-    }
+pub returns-in-Some-Make-clause-refuses : goal.returns-in-Some-Make-clause-refuses
+returns-in-Some-Make-clause-refuses g c = λ tree entry output lines jobs e asks' refused.
+    let make' = c.in-Some-Make in
+    let words = map string_bytes c.args.words.now in
+    let asks : command_line words ≡ Some (make make'.entry.now make'.output.now make'.jobs) = search rules in
+    c.make_program.ensures.refuses tree lines e
+    (asked.made words make'.entry.now make'.output.now make'.jobs asks (λ x y. IsRefusal tree x y lines) entry output jobs asks' refused)
 
-pub returns-in-Ok-clause-on_err : goal.returns-in-Ok-clause-on_err
-returns-in-Ok-clause-on_err g c = λ e _.
-    let built = c.in-Ok.built in
-    let entry = c.in-Some.make.entry.now in
-    let output = c.in-Some.make.output.now in
-    inr (
-      built.lines.items,
-      refusal built.lines.items (record {
-        entry = entry;
-        output = output;
-        asked = c.in-Some.ensures.found;
-        holds = outcome.refusal (g.F.Files.tree c.args.files.now) entry output built.lines.items built.outcome c.in-Stopped.is c.in-Ok.ensures.clean;
-      }),
-      subst (λ l. LongerByPart (g.E.Sink.text c.args.err.now) l (g.E.Sink.text c.said-in-Stopped.new.err)) c.deref-in-Stopped.ensures.value (c.said-in-Stopped.ensures.part e),
-    )
+-- ---- they are those of `run`
 
--- ---- a file failed
+pub returns-in-Some-Run-clause-done : goal.returns-in-Some-Run-clause-done
+returns-in-Some-Run-clause-done g c = λ e.
+    let run' = c.in-Some-Run in
+    let words = map string_bytes c.args.words.now in
+    let asks : command_line words ≡ Some (run run'.program.now run'.inputs.now run'.fuel) = search rules in
+    inr (asked.executes words run'.program.now run'.inputs.now run'.fuel asks _ (c.run_program.ensures.done e))
 
-pub returns-in-Err-File-clause-failed : goal.returns-in-Err-File-clause-failed
-returns-in-Err-File-clause-failed g c = λ _. cause.file_rose _ (rw c.in-Err-File.field-0-is at c.in-Err-File.ensures).cause
+pub returns-in-Some-Run-clause-refused : goal.returns-in-Some-Run-clause-refused
+returns-in-Some-Run-clause-refused g c = λ e.
+    let run' = c.in-Some-Run in
+    let words = map string_bytes c.args.words.now in
+    let asks : command_line words ≡ Some (run run'.program.now run'.inputs.now run'.fuel) = search rules in
+    inr (asked.executes words run'.program.now run'.inputs.now run'.fuel asks _ (c.run_program.ensures.refused e))
+
+pub returns-in-Some-Run-clause-on_out : goal.returns-in-Some-Run-clause-on_out
+returns-in-Some-Run-clause-on_out g c =
+    let run' = c.in-Some-Run in
+    let words = map string_bytes c.args.words.now in
+    let asks : command_line words ≡ Some (run run'.program.now run'.inputs.now run'.fuel) = search rules in
+    asked.or_executes words run'.program.now run'.inputs.now run'.fuel asks _ _
+    (IsToldByPart (g.F.Files.tree c.args.files.now) (g.O.Sink.text c.args.out.now) (g.O.Sink.text c.run_program.new.out)) c.run_program.ensures.on_out
+
+pub returns-in-Some-Run-clause-on_err : goal.returns-in-Some-Run-clause-on_err
+returns-in-Some-Run-clause-on_err g c = λ e same.
+    let run' = c.in-Some-Run in
+    let words = map string_bytes c.args.words.now in
+    let asks : command_line words ≡ Some (run run'.program.now run'.inputs.now run'.fuel) = search rules in
+    asked.or_no_run words run'.program.now run'.inputs.now run'.fuel asks _ (g.F.Files.tree c.args.files.now) (g.E.Sink.text c.args.err.now) (g.E.Sink.text c.run_program.new.err) (c.run_program.ensures.on_err e same)
+
+pub returns-in-Some-Run-clause-runs : goal.returns-in-Some-Run-clause-runs
+returns-in-Some-Run-clause-runs g c = λ tree program inputs fuel outcome e asks' runs.
+    let run' = c.in-Some-Run in
+    let words = map string_bytes c.args.words.now in
+    let asks : command_line words ≡ Some (run run'.program.now run'.inputs.now run'.fuel) = search rules in
+    c.run_program.ensures.complete tree outcome e
+    (asked.ran words run'.program.now run'.inputs.now run'.fuel asks (λ x y z. Runs tree x y z outcome) program inputs fuel asks' runs)
 
 -- ---- the text means what the module means, whatever is answered
 
 pub returns-in_default-clause-meaning : goal.returns-in_default-clause-meaning
-returns-in_default-clause-meaning g c = λ tree entry output text e make. clean_translated tree entry output text
+returns-in_default-clause-meaning g c = λ tree entry output text jobs e asks. clean_translated tree entry output text
 
-pub returns-in-Text-clause-meaning : goal.returns-in-Text-clause-meaning
-returns-in-Text-clause-meaning g c = λ tree entry output text e make. clean_translated tree entry output text
+pub returns-in-None-clause-meaning : goal.returns-in-None-clause-meaning
+returns-in-None-clause-meaning g c = λ tree entry output text jobs e asks. clean_translated tree entry output text
 
-pub returns-in-Err-File-clause-meaning : goal.returns-in-Err-File-clause-meaning
-returns-in-Err-File-clause-meaning g c = λ tree entry output text e make. clean_translated tree entry output text
+pub returns-in-Some-Make-clause-meaning : goal.returns-in-Some-Make-clause-meaning
+returns-in-Some-Make-clause-meaning g c = λ tree entry output text jobs e asks. clean_translated tree entry output text
 
-pub returns-clause-meaning : goal.returns-clause-meaning
-returns-clause-meaning g c = λ tree entry output text e make. clean_translated tree entry output text
+pub returns-in-Some-Run-clause-meaning : goal.returns-in-Some-Run-clause-meaning
+returns-in-Some-Run-clause-meaning g c = λ tree entry output text jobs e asks. clean_translated tree entry output text
