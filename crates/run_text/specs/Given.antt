@@ -1,11 +1,11 @@
 -- The text of the inputs of a run: a line with the flags in JSON, and then a line `PORT JSON` for each input.
 use Rattle.std.specs.Prelude.{ℕ, ◌+◌, List, [], ◌∷◌, Bool, true, false, ◌&&◌, ◌==◌, if◌then◌else◌, Option, Some, None, option_map}
 use Rattle.std.specs.List.{before_first, after_first, onto_first, list_any}
-use Rattle.std.specs.Str.{bytes_eq, is_utf8}
+use Rattle.std.specs.Str.{is_utf8}
 use Rattle.wire_value.specs.Wire.{Wire}
 use Rattle.wire_json.specs.Units.{text_units}
 use Rattle.wire_json.specs.FromJson.{from_bytes}
-use Rattle.js_tree.specs.Tree.{Fields, NoField, MoreField}
+use Rattle.js_code.specs.Ports.{is_among}
 
 -- a line feed (10) ends a line, and one at the end of the text ends the last line; a text without a byte has no line
 abbrev pub lines_of : List ℕ → List (List ℕ)
@@ -49,9 +49,6 @@ more_input input (BadLine row) = BadLine row
 more_input input (UnknownPort row port) = UnknownPort row port
 more_input input (Inputs flags inputs) = Inputs flags (input ∷ inputs)
 
-abbrev pub is_among : List ℕ → List (List ℕ) → Bool
-is_among port ports = list_any (λ other. bytes_eq port other) ports
-
 -- a line that gives this, before the lines behind
 abbrev pub at_line : List (List ℕ) → ℕ → List ℕ → Option Input → Given → Given
 at_line ports row line None behind = BadLine row
@@ -74,8 +71,3 @@ given_lines ports (line ∷ lines) = behind_flags ports (from_bytes line) lines
 -- what the text gives, at the incoming ports with these names
 abbrev pub given : List (List ℕ) → List ℕ → Given
 given ports text = given_lines ports (lines_of text)
-
--- the names of the fields, which those of the incoming ports are
-abbrev pub names_of : Fields → List (List ℕ)
-names_of NoField = []
-names_of (MoreField name value fields) = name ∷ names_of fields

@@ -2,7 +2,8 @@
 
 ghost use Rattle.std.specs.Prelude.{◌≡◌, ◌≤◌, IfOk, length, map, option_map};
 ghost use Rattle.js_code.specs.View.{field_view, fields_of};
-ghost use Rattle.run_text.specs.Given.{given, input_of, is_among, names_of};
+ghost use Rattle.js_code.specs.Ports.{names_of};
+ghost use Rattle.run_text.specs.Given.{given, input_of};
 ghost use Rattle.run_text.specs.View.{given_view, input_view};
 ghost use Rattle.run_text.specs.Lines.{Reads, ReadsAll};
 
@@ -11,6 +12,7 @@ use crate::units::text_units;
 use elm_base::text::Text;
 use elm_base::units::Units;
 use js_code::code::Field;
+use js_code::program::has_name;
 use std::alloc::{AllocError, Global};
 use wire_json::read;
 use wire_value::Wire;
@@ -49,18 +51,6 @@ enum Rest {
     Good(Vec<Input>),
 }
 
-/// Whether a field has the name.
-fn is_among(name: &[u16], fields: &[Field]) -> bool
-    ensures { result ≡ is_among name.now (names_of (fields_of (map field_view fields.now))) }
-{
-    for field in fields {
-        if field.name == name {
-            return true;
-        }
-    }
-    false
-}
-
 /// The input of a line `PORT JSON`, if it is one.
 fn read_input(alloc: Global, line: &[u8]) -> Result<Option<Input>, AllocError>
     ensures { IfOk result (λ found. option_map input_view found ≡ input_of line.now) }
@@ -88,7 +78,7 @@ fn read_line(alloc: Global, line: &[u8], ins: &[Field]) -> Result<Line, AllocErr
     let Some(input) = read_input(alloc, line)? else {
         return Ok(Line::Bad);
     };
-    if is_among(input.port.as_slice(), ins) {
+    if has_name(ins, input.port.as_slice()) {
         return Ok(Line::Good(input));
     }
     match cut_blank(line) {

@@ -1,7 +1,7 @@
 use Rattle.std.proofs.Common.{◌+◌, ◌∷◌, [], map, sym, ap, ◌∙◌, subst, arith}
 use Rattle.std.proofs.lemmas.List.{map-append}
 use Rattle.js_code.specs.View.{field_view, fields_of}
-use Rattle.run_text.specs.Given.{names_of}
+use Rattle.js_code.specs.Ports.{names_of}
 use Rattle.run_text.specs.View.{input_view}
 use Rattle.run_text.specs.Lines.{IsReadTo}
 use Rattle.run_text.proofs.Inputs.{bad_line, unknown_line, good_line, no_line}

@@ -1,6 +1,6 @@
 use Rattle.std.proofs.Common.{◌≤◌, ◌+◌, length, map}
 use Rattle.js_code.specs.View.{field_view, fields_of}
-use Rattle.run_text.specs.Given.{names_of}
+use Rattle.js_code.specs.Ports.{names_of}
 use Rattle.run_text.specs.View.{input_view}
 use Rattle.run_text.specs.Lines.{IsReadTo}
 use Rattle.run_text.proofs.given.read_lines.Given as goal
