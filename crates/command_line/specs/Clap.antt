@@ -1,11 +1,11 @@
--- What `clap` makes of the words.
+-- What `clap` reads from the words.
 use Rattle.std.specs.Prelude.{true, List, Option, Some, None, codes, if◌then◌else◌, option_and_then, option_map, length, ◌==◌}
 use Rattle.std.specs.Str.{bytes_eq}
 use Rattle.clap.specs.Words.{App, Row, Rule, fault_of, first_of, new_app, new_rule, subcommand_of, with_rule, with_subcommand}
 use Rattle.clap.specs.Simple.{on_top}
 use Rattle.command_line.specs.Command.{Command, Text, make, run, number_or}
 
--- an argument that is told by its place
+-- an argument that is given by its position
 abbrev pub positional : Text → Rule
 positional id = record (new_rule id) { required = true }
 
@@ -22,7 +22,7 @@ make_app = with_rule (with_rule (with_rule (new_app (codes "make")) (positional 
 abbrev pub run_app : App
 run_app = with_rule (with_rule (with_rule (new_app (codes "run")) (positional (codes "program"))) (positional (codes "inputs"))) (free_option (codes "fuel"))
 
--- a program that has no help of clap's own
+-- a program without the help of clap
 abbrev pub plain_app : Text → App
 plain_app name = on_top (λ s. record s { disable_help_flag = true; disable_help_subcommand = true }) (new_app name)
 
@@ -46,7 +46,7 @@ abbrev pub read : Text × List Row → Option Command
 read p = if bytes_eq p.0 (codes "make") then make_of p.1
     else (if bytes_eq p.0 (codes "run") then run_of p.1 else None)
 
--- the command that the two subcommands give by clap's exact matches, or none where clap refuses
+-- the command that the two subcommands give by clap's exact matches, or none if clap refuses
 abbrev pub command_of : List Text → Option Command
 command_of words = if length (fault_of elmc_app words) == 0
     then option_and_then read (subcommand_of elmc_app words) else None

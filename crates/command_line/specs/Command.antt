@@ -17,12 +17,12 @@ pub data Command : Type 0 where
   -- the JavaScript, the inputs, and the fuel
   run : Text → Text → ℕ → Command
 
--- the command that the code's own enum names
+-- the command that the enum of the code stands for
 abbrev pub meaning : Borrowed → Command
 meaning (borrowed.Make entry output jobs) = make entry.now output.now jobs
 meaning (borrowed.Run program inputs fuel) = run program.now inputs.now fuel
 
--- one decimal digit or more, of which the first is not 0 (whose code is 48), and nothing else
+-- one or more decimal digits, of which the first is not 0 (code 48), and nothing else
 abbrev pub is_number : Text → Bool
 is_number [] = false
 is_number (d ∷ ds) = not (d == 48) && list_all (λ x. is_digit x 10) (d ∷ ds)
@@ -33,11 +33,11 @@ number_in least most text =
     let n = digits_value 10 text in
     if is_number text && (nat_le least n && nat_le n most) then Some n else None
 
--- the number that an option gives, or `other` where it is not given
+-- the number that an option gives, or `other` if it is not given
 abbrev pub number_or : ℕ → ℕ → ℕ → Option Text → Option ℕ
 number_or least most other text = option_map_or (number_in least most) text (Some other)
 
--- a plus (43) or a 0 stands first
+-- the text begins with a plus (43) or a 0
 abbrev pub begins_with_plus_or_zero : Text → Bool
 begins_with_plus_or_zero [] = false
 begins_with_plus_or_zero (x ∷ rest) = (x == 43) || (x == 48)

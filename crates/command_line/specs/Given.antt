@@ -1,6 +1,6 @@
--- How a command line is read, word by word, into what it gives under which name. The forms are those of the
--- documentation of `clap`: the name of a subcommand, then positional arguments and long options in any order, an option as
--- `--name=value` or as the two words `--name value`; after `--` each word is a positional argument.
+-- How a command line is read, word by word, into named texts. The forms are those that `clap` documents: the name of a
+-- subcommand, then positional arguments and long options in any order. An option is `--name=value`, or the two words
+-- `--name value`. After `--` each word is a positional argument.
 use Rattle.std.specs.Prelude.{◌==◌, Bool, List, [], ◌∷◌, ◌++◌, Option, Some, None, is_some, if◌then◌else◌, find, slice_get, option_map, option_and_then, codes}
 use Rattle.std.specs.List.{after_first, before_first, list_any}
 use Rattle.std.specs.Str.{bytes_eq, chars}
@@ -14,7 +14,7 @@ pub data Form : Type 0 where
   option : Text → Option Text → Form
   -- one hyphen and a character, as `-x`
   short : Form
-  -- any other word: it does not begin with a hyphen, or is a hyphen alone
+  -- any other word: one that does not begin with a hyphen, or a hyphen alone
   plain : Form
 
 -- `name` or `name=value`, as it stands after two hyphens (61 is `=`)
@@ -27,7 +27,7 @@ abbrev pub after_two_hyphens : Text → Form
 after_two_hyphens [] = ending
 after_two_hyphens (x ∷ rest) = option_in (x ∷ rest)
 
--- what follows `-` (45) in a word; bytes that spell no character, which no text has, are no flag
+-- what follows `-` (45) in a word; bytes that spell no character are not a flag, and no text has such bytes
 abbrev pub after_hyphen : Text → Form
 after_hyphen [] = plain
 after_hyphen (x ∷ rest) = if x == 45 then after_two_hyphens rest
@@ -74,7 +74,7 @@ use_option name None places given next = next (Some name) places given
 use_option name (Some value) places given next =
     option_and_then (next None places) (give name value given)
 
--- what a word does by its form, where no option waits for a value: `only` goes on after `--`, and `next` elsewhere
+-- what a word does by its form, if no option waits for a value: `only` goes on after `--`, and `next` otherwise
 abbrev pub read_form : List Text → Form → Text → List Text → Given → (List Text → Given → Option Given)
     → Next → Option Given
 read_form options ending word places given only next = only places given
@@ -114,14 +114,14 @@ text_of given name = option_map (λ e. e.1) (find (λ e. bytes_eq e.0 name) give
 
 -- ---- the command lines of the program
 
--- `make` takes ENTRY, `--output` and 1 to 64 jobs, which are 1 where they are not given
+-- `make` takes ENTRY, `--output`, and 1 to 64 jobs: 1 if they are not given
 abbrev pub make_given : Given → Option Command
 make_given given =
     option_and_then (λ entry. option_and_then (λ output. option_map (λ jobs. make entry output jobs)
     (number_or 1 64 1 (text_of given (codes "jobs")))) (text_of given (codes "output")))
     (text_of given (codes "entry"))
 
--- `run` takes JSFILE, INPUTS and the fuel, which is 1000000 where it is not given
+-- `run` takes JSFILE, INPUTS, and the fuel: 1000000 if it is not given
 abbrev pub run_given : Given → Option Command
 run_given given =
     option_and_then (λ program. option_and_then (λ inputs. option_map (λ fuel. run program inputs fuel)
@@ -136,7 +136,7 @@ command_named name words = if bytes_eq (codes "make") name
     then option_and_then run_given (gives (codes "program" ∷ codes "inputs" ∷ []) (codes "fuel" ∷ []) words)
     else None)
 
--- the command that the words of a process are, of which the first is the program's name
+-- the command that the words of a process ask for; the first word is the name of the program
 abbrev pub command_line : List Text → Option Command
 command_line [] = None
 command_line (program ∷ []) = None

@@ -1,4 +1,4 @@
-//! The command line as `clap` is told it, and the command that its matches give.
+//! The command line as `clap` gets it, and the command that its matches give.
 
 ghost use Rattle.std.specs.Prelude.{◌≡◌, IfOk, false, map, option_and_then, option_map, string_bytes};
 ghost use Rattle.clap.specs.Words.{app_of, first_of, found_of, rows_of, rule_of, subcommand_rows_of};
@@ -15,10 +15,10 @@ use std::alloc::{AllocError, Global};
 /// The most workers that may be asked for.
 const MOST_JOBS: u32 = 64;
 
-/// The fuel where it is not given.
+/// The fuel if it is not given.
 const FUEL: u32 = 1_000_000;
 
-/// The command that `clap` finds in the words, of which the first is the program's name.
+/// The command that `clap` finds in the words. The first word is the name of the program.
 pub fn command_by_clap<'a>(
     alloc: Global,
     words: &'a [String],
@@ -77,7 +77,7 @@ fn run_parser<'a>(alloc: Global) -> Result<Parser<'a>, AllocError>
         .arg(free(alloc, "fuel"))
 }
 
-/// An argument that is told by its place.
+/// An argument that is given by its position.
 fn place<'a>(alloc: Global, id: &'a str) -> Arg<'a>
     ensures rule { rule_of result ≡ positional id.entry.now }
     ensures local { result.global ≡ false }

@@ -3,7 +3,7 @@
 ghost use Rattle.std.specs.Prelude.{◌≡◌, option_map};
 ghost use Rattle.command_line.specs.Command.{begins_with_plus_or_zero, number_in, number_or};
 
-/// The number from `least` to `most` that the option was given, or `other` where it was not given.
+/// The number from `least` to `most` that the option was given, or `other` if it was not given.
 pub fn number_or_other(text: Option<&str>, least: u32, most: u32, other: u32) -> Option<u32>
     ensures { result ≡ number_or least most other (option_map (λ s. s.now) text.entry) }
 {
@@ -13,7 +13,7 @@ pub fn number_or_other(text: Option<&str>, least: u32, most: u32, other: u32) ->
     }
 }
 
-/// The number from `least` to `most` that the text writes in decimal, without a sign and without a 0 in front.
+/// The number from `least` to `most` that the text writes in decimal, without a sign and without leading zeros.
 fn number(text: &str, least: u32, most: u32) -> Option<u32>
     ensures { result ≡ number_in least most text.now }
 {
@@ -32,7 +32,7 @@ fn number(text: &str, least: u32, most: u32) -> Option<u32>
     }
 }
 
-/// Whether the text begins as one that `parse` reads too: with a plus or with a 0.
+/// Whether the text begins with a plus or a 0, which `parse` accepts too.
 fn is_in_other_form(text: &str) -> bool
     ensures { result ≡ begins_with_plus_or_zero text.now }
 {

@@ -5,8 +5,6 @@ mod components;
 mod lists;
 mod order;
 mod ready;
-#[cfg(test)]
-mod tests;
 
 ghost use Rattle.std.specs.Prelude.{◌≡◌, ℕ, List};
 ghost use Rattle.decl_groups.specs.Groups.{IsOrder};

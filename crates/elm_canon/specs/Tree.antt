@@ -1,6 +1,6 @@
 -- The canonical tree of a program, as plain data: each name is a local one or one of a module. (Elm guide: core language, records, tuples,
 -- functions; syntax reference.) Names are lists of UTF-16 units.
-use Rattle.std.specs.Prelude.{ℕ, List, Bool, true, false, ◌&&◌}
+use Rattle.std.specs.Prelude.{ℕ, List, Bool, false, ◌&&◌}
 use Rattle.std.specs.Str.{bytes_eq}
 
 -- what a name means: a local x, or x of a module

@@ -47,7 +47,7 @@ one_made plan = record plan { calls = raised plan.calls }
 abbrev pub one_failed : Plan → Plan
 one_failed plan = record plan { calls = raised plan.calls; faults = raised plan.faults }
 
--- the plan after a call: one call more, and one fault more where it failed; a call that wanted memory does not count
+-- the plan after a call: one more call, and one more failure if it failed; a call that ran out of memory does not count
 abbrev pub plan_after : {T : Type 0} → Result T FileError → Plan → Plan
 plan_after (Ok _) plan = one_made plan
 plan_after (Err Failed) plan = one_failed plan

@@ -1,5 +1,5 @@
-//! Files of the host below a folder, and a sink over a writer of the host. What they hold is the host's own, so
-//! they tell of no tree and of no text.
+//! Files of the host below a folder, and a sink over a writer of the host. Contracts say nothing of what they hold, so
+//! they tell no tree and no text.
 ghost use Rattle.std.specs.Prelude.{◌≡◌, IfOk};
 ghost use Rattle.elm_files.specs.Answers.{faults_after};
 ghost use Rattle.elm_files.specs.Host.{file_faults, sink_faults};
@@ -12,7 +12,7 @@ use std::io::{ErrorKind, Read, Write};
 use std::path::Path;
 use std::{fs, io, rt};
 
-/// The files below a folder, by the runtime's calls.
+/// The files below a folder of the host.
 #[derive(Drop)]
 pub struct HostFiles<R> {
     runtime: R,
@@ -48,7 +48,7 @@ impl<R: rt::Files + AllocGlobal> HostFiles<R> {
         }
     }
 
-    // Reads one byte more than the limit at most.
+    // Reads at most one byte more than the limit.
     fn front(&self, file: R::File, limit: u64) -> Result<Got, FileError>
         ensures { IfOk result (IsWithin limit) }
     {
@@ -61,7 +61,7 @@ impl<R: rt::Files + AllocGlobal> HostFiles<R> {
         }
     }
 
-    // Once the first folder is made, want of memory is a failure too.
+    // Out of memory is a failure here, since a folder may have been created already.
     fn store(&self, path: &str, bytes: &[u8]) -> Result<(), FileError> {
         let place = self.place(path)?;
         match write_below(&self.runtime, place.as_str(), bytes) {
@@ -71,7 +71,7 @@ impl<R: rt::Files + AllocGlobal> HostFiles<R> {
     }
 }
 
-// The folders above the file are made where they are missing.
+// Creates the folders above the file if they are missing.
 fn write_below(runtime: &impl rt::Files, place: &str, bytes: &[u8]) -> io::Result<()> {
     if let Some(folder) = Path::new(place).parent() {
         fs::create_dir_all(runtime, folder)?;
@@ -79,7 +79,7 @@ fn write_below(runtime: &impl rt::Files, place: &str, bytes: &[u8]) -> io::Resul
     fs::write(runtime, place, bytes)
 }
 
-// A read changes nothing, so want of memory is told apart.
+// A read changes nothing, so out of memory is an error of its own.
 fn read_error(error: &io::Error) -> FileError {
     if error.kind() == ErrorKind::OutOfMemory {
         FileError::NoMemory
@@ -115,14 +115,14 @@ impl<R: rt::Files + AllocGlobal> Files for HostFiles<R> {
         counted(&mut self.faults, outcome)
     }
 
-    /// Folders that are missing above the file are made.
+    /// Creates the folders above the file if they are missing.
     fn write(&mut self, path: &str, bytes: &[u8]) -> Result<(), FileError> {
         let outcome = self.store(path, bytes);
         counted(&mut self.faults, outcome)
     }
 }
 
-/// A writer of the host, as standard output. Each piece is flushed.
+/// A writer of the host, such as standard output. Each piece is flushed.
 #[derive(Drop)]
 pub struct HostSink<W> {
     writer: W,
@@ -163,39 +163,5 @@ impl<W: Write> Sink for HostSink<W> {
     fn put(&mut self, bytes: &[u8]) -> Result<(), FileError> {
         let outcome = self.deliver(bytes);
         counted(&mut self.faults, outcome)
-    }
-}
-
-#[cfg(test)]
-mod tests {
-    use super::*;
-    use std::test::Fail;
-    use std::{env, process};
-
-    #[test]
-    fn writes_below_a_folder(rt: HostRuntime) -> Result<(), Fail> {
-        let temporary = env::temp_dir(&rt)?;
-        let folder = temporary.as_path().display();
-        let number = process::id(rt.process());
-        let root = format!(in rt.alloc(); "{folder}/elm_files_{number}")?;
-        let mut files = HostFiles::new(rt, root.clone()?);
-        files.write("src/A.elm", b"one")?;
-        assert!(rt;
-            matches!(&files.read("src/A.elm", 3)?, Got::Bytes(bytes) if bytes.as_slice() == b"one".as_slice())
-        );
-        assert!(rt; matches!(&files.read("src/A.elm", 2)?, Got::TooLong));
-        assert!(rt; matches!(&files.read("src/B.elm", 2)?, Got::Absent));
-        assert_eq!(rt; files.write("src/A.elm/B", b"two"), Err(FileError::Failed));
-        assert_eq!(rt; files.write("src", b"two"), Err(FileError::Failed));
-
-        let out = format!(in rt.alloc(); "{root}/out")?;
-        let mut sink = HostSink::new(File::create(&rt, out.as_str())?);
-        sink.put(b"one ")?;
-        sink.put(b"two")?;
-        assert!(rt;
-            matches!(&files.read("out", 9)?, Got::Bytes(bytes) if bytes.as_slice() == b"one two".as_slice())
-        );
-        fs::remove_dir_all(&rt, root.as_str())?;
-        Ok(())
     }
 }

@@ -1,4 +1,4 @@
-//! The outside of the compiler: files and sinks, with meanings that contracts can speak of.
+//! What is outside of the compiler: files and sinks, in terms that contracts can use.
 #![tactic(auto)]
 
 mod host;

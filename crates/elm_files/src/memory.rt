@@ -28,7 +28,7 @@ impl Calls {
         }
     }
 
-    // Is the next call to fail?
+    // Whether the next call is to fail.
     fn is_failing(&self) -> bool
         ensures { IsTrue result ↔ Contains (plan_in self.now).failing (plan_in self.now).calls }
     {
@@ -49,8 +49,8 @@ impl Calls {
     }
 }
 
-/// Files in memory. Those of its calls of `read` and `write` fail, and no others, whose numbers it was given;
-/// both are numbered together, from 0.
+/// Files in memory. Exactly the calls of `read` and `write` fail whose numbers it was given. Both are numbered
+/// together, from 0.
 #[derive(Drop)]
 pub struct MemFiles {
     alloc: Global,
@@ -71,7 +71,7 @@ impl MemFiles {
         }
     }
 
-    /// Makes `bytes` the file at `path`. This is no call that is numbered.
+    /// Makes `bytes` the file at `path`. This call is not numbered.
     pub fn insert(&mut self, path: &str, bytes: &[u8]) -> Result<(), AllocError>
         ensures ok { OnOk result (files_in self.new ≡ put (files_in self.old) path.now (Some bytes.now)) }
         ensures err { OnErr result (files_in self.new ≡ files_in self.old) }
@@ -83,7 +83,7 @@ impl MemFiles {
         Ok(())
     }
 
-    /// Makes `path` absent. This is no call that is numbered.
+    /// Makes `path` absent. This call is not numbered.
     pub fn remove(&mut self, path: &str)
         ensures files { files_in self.new ≡ put (files_in self.old) path.now None }
         ensures plan { plan_of self.new ≡ plan_of self.old }
@@ -91,7 +91,7 @@ impl MemFiles {
         self.held.remove(path);
     }
 
-    /// The file at `path`. This is no call that is numbered.
+    /// The file at `path`. This call is not numbered.
     pub fn get(&self, path: &str) -> Option<&[u8]>
         ensures { option_map (λ bytes. bytes.now) result ≡ files_in self.now path.now }
     {
@@ -101,14 +101,14 @@ impl MemFiles {
         }
     }
 
-    /// How many calls of `read` and `write` were numbered, 2^64 - 1 for that many and more.
+    /// How many calls of `read` and `write` were numbered: 2^64 - 1 for that many or more.
     pub fn calls(&self) -> u64
         ensures { result ≡ (plan_of self.now).calls }
     {
         self.calls.made
     }
 
-    // What the path holds, cut off at the limit.
+    // What the path holds, if it is within the limit.
     fn found(&self, path: &str, limit: u64) -> Result<Got, AllocError>
         ensures answer { IfOk result (IsReadOf (files_in self.now path.now) limit) }
         ensures within { IfOk result (IsWithin limit) }
@@ -145,7 +145,7 @@ impl Files for MemFiles {
         Ok(got)
     }
 
-    /// Where it fails, the path is absent afterwards.
+    /// If it fails, the path is absent afterwards.
     fn write(&mut self, path: &str, bytes: &[u8]) -> Result<(), FileError>
         ensures ok { OnOk result (files_in self.new ≡ put (files_in self.old) path.now (Some bytes.now)) }
         ensures removed { OnFailed result (files_in self.new ≡ put (files_in self.old) path.now None) }
@@ -165,7 +165,7 @@ impl Files for MemFiles {
     }
 }
 
-/// A sink in memory. Those of its calls of `put` fail, and no others, whose numbers it was given, from 0.
+/// A sink in memory. Exactly the calls of `put` fail whose numbers it was given, counted from 0.
 #[derive(Drop)]
 pub struct MemSink {
     held: Vec<u8>,
@@ -173,7 +173,7 @@ pub struct MemSink {
 }
 
 impl MemSink {
-    /// Nothing was put. The calls with the numbers in `failing` are to fail.
+    /// A sink without text. The calls with the numbers in `failing` are to fail.
     pub fn new(alloc: Global, failing: Vec<u64>) -> Self
         ensures text { text_in result ≡ [] }
         ensures plan { sink_plan_of result ≡ record { failing = failing.items; calls = 0; faults = 0 } }
@@ -191,7 +191,7 @@ impl MemSink {
         self.held.as_slice()
     }
 
-    /// How many calls of `put` were numbered, 2^64 - 1 for that many and more.
+    /// How many calls of `put` were numbered: 2^64 - 1 for that many or more.
     pub fn calls(&self) -> u64
         ensures { result ≡ (sink_plan_of self.now).calls }
     {
@@ -207,7 +207,7 @@ impl Sink for MemSink {
 
     ghost faults = { λ s. (sink_plan_of s).faults };
 
-    /// Where it fails, nothing is put.
+    /// If it fails, nothing is put.
     fn put(&mut self, bytes: &[u8]) -> Result<(), FileError>
         ensures ok { OnOk result (text_in self.new ≡ text_in self.old ++ bytes.now) }
         ensures err { OnErr result (text_in self.new ≡ text_in self.old) }
@@ -221,49 +221,6 @@ impl Sink for MemSink {
         }
         self.held.extend_from_slice(bytes)?;
         self.calls.count_made();
-        Ok(())
-    }
-}
-
-#[cfg(test)]
-mod tests {
-    use super::*;
-    use std::test::Fail;
-
-    fn read<F: Files>(files: &mut F, path: &str, limit: u64) -> Result<Got, FileError> {
-        files.read(path, limit)
-    }
-
-    fn put<S: Sink>(sink: &mut S, bytes: &[u8]) -> Result<(), FileError> {
-        sink.put(bytes)
-    }
-
-    #[test]
-    fn files_fail_where_told(rt: HostRuntime) -> Result<(), Fail> {
-        let mut files = MemFiles::new(rt.alloc(), vec![in rt.alloc(); 1, 4]?);
-        files.insert("src/A.elm", b"one")?;
-        assert!(rt; matches!(&read(&mut files, "src/A.elm", 3)?, Got::Bytes(_)));
-        assert_eq!(rt; read(&mut files, "src/A.elm", 3).is_ok(), false);
-        assert!(rt; matches!(&read(&mut files, "src/A.elm", 2)?, Got::TooLong));
-        files.write("src/A.elm", b"two")?;
-        assert_eq!(rt; files.get("src/A.elm").is_some(), true);
-        assert_eq!(rt; files.write("src/A.elm", b"three"), Err(FileError::Failed));
-        assert!(rt; matches!(&read(&mut files, "src/A.elm", 9)?, Got::Absent));
-        assert_eq!(rt; files.calls(), 6);
-        files.insert("src/A.elm", b"four")?;
-        files.remove("src/A.elm");
-        assert_eq!(rt; files.get("src/A.elm").is_some(), false);
-        Ok(())
-    }
-
-    #[test]
-    fn a_sink_fails_where_told(rt: HostRuntime) -> Result<(), Fail> {
-        let mut sink = MemSink::new(rt.alloc(), vec![in rt.alloc(); 1]?);
-        put(&mut sink, b"one ")?;
-        assert_eq!(rt; put(&mut sink, b"lost"), Err(FileError::Failed));
-        put(&mut sink, b"two")?;
-        assert_eq!(rt; sink.bytes(), b"one two".as_slice());
-        assert_eq!(rt; sink.calls(), 3);
         Ok(())
     }
 }

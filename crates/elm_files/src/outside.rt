@@ -8,10 +8,10 @@ use std::alloc::AllocError;
 
 /// Files by their paths, each read and written whole.
 pub trait Files {
-    // The tree that the object tells of, if it tells of one.
+    // The tree of files that the object tells, if it tells one.
     ghost tree: { Self → Option Tree };
 
-    // For each path, by its bytes, how often a call on it failed. A count of 2^64 - 1 is full and stays there.
+    // For each path, by its bytes, how often a call on it failed. A count of 2^64 - 1 is full and stays as it is.
     ghost faults: { Self → List ℕ → ℕ };
 
     /// The file at `path`, if it has at most `limit` bytes.
@@ -46,12 +46,12 @@ pub enum Got {
     TooLong,
 }
 
-/// Why a call on a file or a sink gives no answer.
+/// Why a call on a file or a sink returns no result.
 #[derive(Clone, Copy, Debug, PartialEq, Eq)]
 pub enum FileError {
     /// The file or the sink failed.
     Failed,
-    /// Memory was wanting. The call changed nothing.
+    /// Memory ran out. The call changed nothing.
     NoMemory,
 }
 
@@ -68,13 +68,13 @@ impl From<AllocError> for FileError {
 
 /// Takes text piece by piece.
 pub trait Sink {
-    // What was put so far, if the object tells it.
+    // The text that was put so far, if the object tells it.
     ghost text: { Self → Option (List ℕ) };
 
-    // How often a call failed. A count of 2^64 - 1 is full and stays there.
+    // How often a call failed. A count of 2^64 - 1 is full and stays as it is.
     ghost faults: { Self → ℕ };
 
-    /// Puts `bytes` behind what was put before. After `Failed` a front part of `bytes` may stand there.
+    /// Puts `bytes` after what was put before. After `Failed`, a beginning of `bytes` may have been put.
     fn put(&mut self, bytes: &[u8]) -> Result<(), FileError>
         ensures ok { OnOk result (text self.new ≡ longer (text self.old) bytes.now) }
         ensures part { OnFailed result (LongerByPart (text self.old) bytes.now (text self.new)) }

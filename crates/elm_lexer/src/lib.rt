@@ -9,8 +9,6 @@ pub mod laws;
 pub mod lexer;
 pub mod piece;
 pub mod place;
-#[cfg(test)]
-mod tests;
 pub mod token;
 
 pub use error::LexError;

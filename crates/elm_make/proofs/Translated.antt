@@ -10,7 +10,7 @@ use Rattle.elm_canon.specs.Run.{SourceRun}
 use Rattle.js_tree.specs.Tree.{Program}
 use Rattle.js_tree.specs.Text.{JsText}
 use Rattle.js_tree.specs.Subset.{is_program_spelled, is_program_bound, in_subset}
-use Rattle.js_tree.specs.Run.{JsRun}
+use Rattle.js_meaning.specs.Run.{JsRun}
 use Rattle.js_tree.proofs.NameFronts.{and_true}
 use Rattle.js_tree.proofs.Exact.{one_program}
 use Rattle.js_emit.specs.Emit.{Emit}

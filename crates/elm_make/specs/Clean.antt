@@ -1,4 +1,4 @@
--- Clean: what a build comes to, as a fold over the modules in import order. It speaks of the files and of the words alone.
+-- Clean: the outcome of a build, as a fold over the modules in import order. It speaks only of the files and the words.
 use Rattle.std.specs.Prelude.{◌≡◌, ℕ, List, [], ◌∷◌, ◌++◌, MatchBool, if◌then◌else◌, Option, Some, None, nat_le, length, codes}
 use Rattle.elm_base.specs.declared.fault.Code.{Code}
 use Rattle.elm_base.specs.declared.fault.Code.TheVariants.{BadOutput, EntryNotFound, NotYet as not_yet}
@@ -10,12 +10,18 @@ use Rattle.js_emit.specs.Emit.{Emit}
 use Rattle.module_compile.specs.Made.{Result, Good, NotYet, Made}
 use Rattle.elm_make.specs.Paths.{normal_path, is_absolute, is_output, is_entry}
 
--- what a build comes to: it stopped before any module was compiled, with these lines; modules have faults, with these lines; or the text
--- of a program
+-- the outcome of a build: it stopped before any module was compiled, with these lines; modules have faults, with these
+-- lines; or the text of a program
 pub data Outcome : Type 0 where
   Stopped : List ℕ → Outcome
   Faulty : List ℕ → Outcome
   Text : List ℕ → Outcome
+
+-- the number of modules of the project, which today is one, or 0 if the build stopped
+abbrev pub modules_of : Outcome → ℕ
+modules_of (Stopped lines) = 0
+modules_of (Faulty lines) = 1
+modules_of (Text text) = 1
 
 -- the line of a fault without detail at the start of a file
 abbrev pub start_line : Code → List ℕ → List ℕ
@@ -26,7 +32,7 @@ start_line code path =
 abbrev pub text_within : List ℕ → Option (List ℕ)
 text_within text = if nat_le (length text) 4194304 then Some text else None
 
--- each module, by its path and its text, with what it comes to, in import order
+-- each module, by its path and its text, with its result, in import order
 pub data Folded : List (List ℕ × Option (List ℕ)) → List (List ℕ × Result) → Type 0 where
   no_module : Folded [] []
   one_module : {path : List ℕ} {text : Option (List ℕ)} {made : Result} {sources : List (List ℕ × Option (List ℕ))} {results : List (List ℕ × Result)} → Made text made → Folded sources results → Folded ((path, text) ∷ sources) ((path, made) ∷ results)
@@ -50,26 +56,27 @@ abbrev pub linked : List (List ℕ × Result) → Option Project
 linked [] = None
 linked (r ∷ rs) = good_entry r.1 (linked rs) rs
 
--- where all modules are good the text is that of the entry's JavaScript; else the faults of all modules are told
+-- if all modules are good, the text is that of the entry's JavaScript; otherwise it is the faults of all modules
 abbrev pub IsJoined : Option Project → List (List ℕ × Result) → Outcome → Type 0
 IsJoined (Some p) results outcome = (bytes : List ℕ) × JsText (Emit p) bytes × (outcome ≡ Text bytes)
 IsJoined None results outcome = outcome ≡ Faulty (fault_lines results)
 
--- what a module alone comes to: the text of its program, or its fault
+-- the outcome of a single module: the text of its program, or its fault
 abbrev pub outcome_for : List ℕ → Option (List ℕ) → Outcome
 outcome_for path (Some text) = Text text
 outcome_for path None = Faulty (start_line not_yet path)
 
--- what the modules come to, which stand in import order
+-- the outcome of the modules, which stand in import order
 abbrev pub IsFoldOf : List (List ℕ × Option (List ℕ)) → Outcome → Type 0
 IsFoldOf sources outcome = (results : List (List ℕ × Result)) × Folded sources results × IsJoined (linked results) results outcome
 
--- the entry at this path, if it is there; it is the one module today
+-- the entry at this path, if it is there; today it is the only module
 abbrev pub IsBuiltFrom : Option (List ℕ) → List ℕ → Outcome → Type 0
 IsBuiltFrom None path outcome = outcome ≡ Stopped (start_line EntryNotFound path)
 IsBuiltFrom (Some text) path outcome = IsFoldOf ((path, text_within text) ∷ []) outcome
 
--- the first of the steps that has something to refuse ends the build: the output's path, the entry's, the entry, the modules
+-- the first step that refuses something ends the build: the path of the output, the path of the entry, the entry, the
+-- modules
 abbrev pub Clean : Tree → List ℕ → List ℕ → Outcome → Type 0
 Clean tree entry output outcome =
     MatchBool (is_absolute output) (outcome ≡ Stopped (start_line BadOutput output))
@@ -80,6 +87,6 @@ Clean tree entry output outcome =
     (outcome ≡ Stopped (start_line EntryNotFound (normal_path entry)))))
     (outcome ≡ Stopped (start_line BadOutput (normal_path output))))
 
--- the line that tells of a finished build
+-- the line of a finished build
 abbrev pub compiled_line : List ℕ → List ℕ
 compiled_line output = codes "compiled to " ++ (normal_path output ++ codes ", modules: 1\n")

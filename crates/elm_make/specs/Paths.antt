@@ -3,7 +3,7 @@ use Rattle.std.specs.Prelude.{ℕ, List, [], ◌∷◌, Bool, false, ◌&&◌, �
 use Rattle.std.specs.List.{filter, slice_split, join_with_byte, ends_with}
 use Rattle.std.specs.Str.{bytes_eq}
 
--- a part that stays: not empty, and not the point alone
+-- a part that stays: it is not empty, and not `.`
 abbrev pub is_kept : List ℕ → Bool
 is_kept part = not (bytes_eq part []) && not (bytes_eq part (codes "."))
 

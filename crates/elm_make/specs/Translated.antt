@@ -1,4 +1,4 @@
--- What an output means, beside the module that it was made of.
+-- What an output means, compared with the module that it was made of.
 use Rattle.std.specs.Prelude.{◌≡◌, ℕ, List, [], ◌∷◌, true, Option, Some, None}
 use Rattle.wire_value.specs.Wire.{Wire}
 use Rattle.runs.specs.Trace.{SameRun, IsRuled, IsSafe}
@@ -7,7 +7,7 @@ use Rattle.elm_canon.specs.Run.{SourceRun}
 use Rattle.js_tree.specs.Tree.{Program}
 use Rattle.js_tree.specs.Text.{JsText}
 use Rattle.js_tree.specs.Subset.{in_subset}
-use Rattle.js_tree.specs.Run.{JsRun}
+use Rattle.js_meaning.specs.Run.{JsRun}
 use Rattle.module_compile.specs.Made.{Result, Good, Made}
 
 -- the bytes have exactly one tree of the subset, this program
@@ -21,8 +21,8 @@ abbrev pub AreInputs : List (List ℕ × Wire) → Type 0
 AreInputs [] = Unit {0}
 AreInputs (input ∷ inputs) = ⊥
 
--- The text comes to one program, the bytes have one tree, and the two run alike for all flags and inputs, unless a run of the first ends with
--- a number that is not exact. No run of the first ends where no rule applies.
+-- The text gives one program, and the bytes have one tree. No run of the program ends where no rule applies. The two
+-- have the same runs for all flags and inputs for which no run of the program ends with a number that is not exact.
 pub record Translates (text bytes : List ℕ) : Type 0 where
   pub project : Project
   pub made : Made (Some text) (Good project)

@@ -1,4 +1,4 @@
--- What a build of the program came to, as plain data.
+-- The outcome of a build of the code, as plain data.
 use Rattle.std.specs.Prelude.{ℕ, List, Option, option_map}
 use Rattle.std.specs.declared.vec.Vec.{Vec}
 use Rattle.std.specs.declared.alloc.Global.{Global}

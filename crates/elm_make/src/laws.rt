@@ -1,4 +1,4 @@
-//! What holds of what builds come to.
+//! Laws of the outcomes of builds.
 
 ghost use Rattle.std.specs.Prelude.{◌≡◌, ℕ, List};
 ghost use Rattle.elm_files.specs.Tree.{Tree};
@@ -11,7 +11,7 @@ pub fn clean_law()
     ensures { (tree : Tree) (entry output : List ℕ) (a b : Outcome) → Clean tree entry output a → Clean tree entry output b → a ≡ b }
 {}
 
-/// The text that a build comes to is the translation of its entry.
+/// The text that a build gives is the translation of its entry.
 pub fn translation_law()
     ensures { (tree : Tree) (entry output bytes : List ℕ) → Clean tree entry output (Text bytes) → IsTranslation (tree (normal_path entry)) bytes }
 {}

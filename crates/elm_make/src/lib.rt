@@ -1,6 +1,6 @@
 //! The build: from the files of a project to the JavaScript text of its program.
 //!
-//! Today a project is one module `Main` that starts a worker and sends one number.
+//! Today a project is one module, `Main`.
 #![tactic(auto)]
 
 mod laws;

@@ -3,7 +3,7 @@
 ghost use Rattle.std.specs.Prelude.{◌≡◌, ◌≤◌, ◌++◌, ℕ, List, [], ◌∷◌, IfErr, IfOk, IfSome, Some, None, codes, length};
 ghost use Rattle.elm_base.specs.declared.fault.Code.TheVariants.{BadOutput, EntryNotFound, NotYet as not_yet};
 ghost use Rattle.elm_files.specs.Answers.{NoneFull};
-ghost use Rattle.elm_make.specs.Clean.{Clean, IsBuiltFrom, IsFoldOf, Outcome as PlainOutcome, compiled_line, outcome_for, start_line};
+ghost use Rattle.elm_make.specs.Clean.{Clean, IsBuiltFrom, IsFoldOf, Outcome as PlainOutcome, compiled_line, modules_of, outcome_for, start_line};
 ghost use Rattle.elm_make.specs.Clean as plain;
 ghost use Rattle.elm_files.specs.Tree.{with_file};
 ghost use Rattle.elm_make.specs.End.{HasCause, IsToldIfRose, IsEndAt, IsFailureTold, Leaves, LeavesAtEnd, SaysDone};
@@ -23,10 +23,10 @@ use std::alloc::{AllocError, AllocFailed, Global};
 use std::sync::Wait;
 use std::thread::Threads;
 
-/// A module's text that is longer, in bytes, is refused.
+/// The most bytes that the text of a module may have.
 const MAX_TEXT: u64 = 4_194_304;
 
-/// What a build comes to.
+/// The outcome of a build.
 #[derive(Drop)]
 pub enum Outcome {
     /// The build stopped before any module was compiled, for these faults of the words or of the project.
@@ -41,12 +41,10 @@ pub enum Outcome {
 #[derive(Drop)]
 pub struct Built {
     pub outcome: Outcome,
-    /// The number of the project's modules, or 0 where the build stopped.
+    /// The number of modules of the project, or 0 if the build stopped.
     pub modules: u32,
-    /// What is printed: on standard output where there is a text, else on standard error.
+    /// What is printed: on standard output if there is a text, otherwise on standard error.
     pub lines: Vec<u8>,
-    /// How many modules were not compiled, since an earlier build had.
-    pub reused: u32,
 }
 
 /// Why a build was not done.
@@ -83,7 +81,7 @@ impl<T: Drop> From<AllocFailed<T>> for BuildEnd {
 /// Builds the project of the module at `entry` (a path below the folder of `files`), and writes the text of its
 /// program to the path `output`. A refused build writes nothing.
 ///
-/// `jobs` is the number of workers, 1 to 64, and `gate` what each of them passes round a compile.
+/// `jobs` is the number of workers, 1 to 64, and does nothing yet. `gate` stands around each compile.
 pub fn build<R: Threads + Wait + Sync, F: Files, G: Gate + Sync>(
     _rt: &R,
     alloc: Global,
@@ -95,16 +93,17 @@ pub fn build<R: Threads + Wait + Sync, F: Files, G: Gate + Sync>(
 ) -> Result<Built, BuildEnd>
     requires { NoneFull (F.faults files.old) }
 
-    // What it comes to is what the fold over the modules gives, and nothing else.
+    // The outcome is the one that the definition gives, and no other is.
     ensures clean { IfOk result (λ built. IfSome (F.tree files.old) (λ tree. Clean tree entry.now output.now (built_view built))) }
     ensures only { IfOk result (λ built. IfSome (F.tree files.old) (λ tree. (other : PlainOutcome) → Clean tree entry.now output.now other → other ≡ built_view built)) }
 
-    // What it leaves and says.
+    // What the build leaves and prints.
     ensures leaves { IfOk result (λ built. Leaves (normal_path output.now) (built_view built) (F.tree files.old) (F.tree files.new)) }
     ensures says { IfOk result (λ built. SaysDone (built_view built) built.lines.items (compiled_line output.now)) }
+    ensures counts { IfOk result (λ built. built.modules ≡ modules_of (built_view built)) }
     ensures no_fault { IfOk result (λ built. F.faults files.new ≡ F.faults files.old) }
 
-    // Why it was not done, and what it leaves then.
+    // Why there is no outcome, and what the build leaves then.
     ensures cause { IfErr result (λ end. HasCause end (F.faults files.old) (F.faults files.new)) }
     ensures told { IfErr result (λ end. IsToldIfRose end (F.faults files.old) (F.faults files.new)) }
     ensures leaves_at_end { IfErr result (λ end. LeavesAtEnd (normal_path output.now) end (F.tree files.old) (F.tree files.new)) }
@@ -139,6 +138,7 @@ fn build_entry<F: Files, G: Gate>(
     ensures only { IfOk result (λ built. IfSome (F.tree files.old) (λ tree. (other : PlainOutcome) → IsBuiltFrom (tree source.now) source.now other → other ≡ built_view built)) }
     ensures leaves { IfOk result (λ built. Leaves file.now (built_view built) (F.tree files.old) (F.tree files.new)) }
     ensures says { IfOk result (λ built. SaysDone (built_view built) built.lines.items (codes "compiled to " ++ (file.now ++ codes ", modules: 1\n"))) }
+    ensures counts { IfOk result (λ built. built.modules ≡ modules_of (built_view built)) }
     ensures no_fault { IfOk result (λ built. F.faults files.new ≡ F.faults files.old) }
     ensures cause { IfErr result (λ end. HasCause end (F.faults files.old) (F.faults files.new)) }
     ensures told { IfErr result (λ end. IsToldIfRose end (F.faults files.old) (F.faults files.new)) }
@@ -168,6 +168,7 @@ fn build_text<F: Files, G: Gate>(
     ensures only { IfOk result (λ built. (other : PlainOutcome) → IsFoldOf ((source.now, Some text.now) ∷ []) other → other ≡ built_view built) }
     ensures leaves { IfOk result (λ built. Leaves file.now (built_view built) (F.tree files.old) (F.tree files.new)) }
     ensures says { IfOk result (λ built. SaysDone (built_view built) built.lines.items (codes "compiled to " ++ (file.now ++ codes ", modules: 1\n"))) }
+    ensures counts { IfOk result (λ built. built.modules ≡ modules_of (built_view built)) }
     ensures no_fault { IfOk result (λ built. F.faults files.new ≡ F.faults files.old) }
     ensures cause { IfErr result (λ end. HasCause end (F.faults files.old) (F.faults files.new)) }
     ensures told { IfErr result (λ end. IsToldIfRose end (F.faults files.old) (F.faults files.new)) }
@@ -182,7 +183,7 @@ fn build_text<F: Files, G: Gate>(
     }
 }
 
-/// The text of the program of a module's text, or none where the text is not that of an accepted module.
+/// The text of the program of a module, or none if the module is not accepted.
 fn program_text(alloc: Global, text: &[u8]) -> Result<Option<Vec<u8>>, AllocError>
     requires { length text.now ≤ 4194304 }
     ensures clean { IfOk result (λ program. (path : List ℕ) → IsFoldOf ((path, Some text.now) ∷ []) (outcome_for path (text_view program))) }
@@ -208,6 +209,7 @@ fn write_text<F: Files>(
     ensures text { IfOk result (λ built. built_view built ≡ plain.Text program.items) }
     ensures leaves { IfOk result (λ built. F.tree files.new ≡ with_file (F.tree files.old) file.now program.items) }
     ensures says { IfOk result (λ built. built.lines.items ≡ codes "compiled to " ++ (file.now ++ codes ", modules: 1\n")) }
+    ensures counts { IfOk result (λ built. built.modules ≡ modules_of (built_view built)) }
     ensures no_fault { IfOk result (λ built. F.faults files.new ≡ F.faults files.old) }
     ensures cause { IfErr result (λ end. HasCause end (F.faults files.old) (F.faults files.new)) }
     ensures told { IfErr result (λ end. IsToldIfRose end (F.faults files.old) (F.faults files.new)) }
@@ -220,13 +222,12 @@ fn write_text<F: Files>(
             outcome: Outcome::Text(program),
             modules: 1,
             lines,
-            reused: 0,
         }),
         Err(error) => Err(failed(error, path)),
     }
 }
 
-/// The end of a build whose call on the file at `path` was refused.
+/// The end of a build whose call on the file at `path` returned an error.
 fn failed(error: FileError, path: Text) -> BuildEnd
     ensures end { IsEndAt result path error }
     ensures told { IsFailureTold error result }
@@ -237,9 +238,10 @@ fn failed(error: FileError, path: Text) -> BuildEnd
     }
 }
 
-/// A build that stopped for a fault of the file at `path`.
+/// A build that stopped for a fault in the file at `path`.
 fn stopped(alloc: Global, code: Code, path: &str) -> Result<Built, AllocError>
-    ensures { IfOk result (λ built. built_view built ≡ plain.Stopped (start_line code path.now)) }
+    ensures outcome { IfOk result (λ built. built_view built ≡ plain.Stopped (start_line code path.now)) }
+    ensures counts { IfOk result (λ built. built.modules ≡ modules_of (built_view built)) }
 {
     let (fault, lines) = refusal(alloc, code, path)?;
     let mut faults = Vec::new(alloc);
@@ -248,13 +250,13 @@ fn stopped(alloc: Global, code: Code, path: &str) -> Result<Built, AllocError>
         outcome: Outcome::Stopped(faults),
         modules: 0,
         lines,
-        reused: 0,
     })
 }
 
 /// A build of a project whose one module, at `path`, is not accepted.
 fn refused(alloc: Global, path: &str) -> Result<Built, AllocError>
-    ensures { IfOk result (λ built. built_view built ≡ plain.Faulty (start_line not_yet path.now)) }
+    ensures outcome { IfOk result (λ built. built_view built ≡ plain.Faulty (start_line not_yet path.now)) }
+    ensures counts { IfOk result (λ built. built.modules ≡ modules_of (built_view built)) }
 {
     let (fault, lines) = refusal(alloc, Code::NotYet, path)?;
     let mut faults = Vec::new(alloc);
@@ -263,6 +265,5 @@ fn refused(alloc: Global, path: &str) -> Result<Built, AllocError>
         outcome: Outcome::Faults(faults),
         modules: 1,
         lines,
-        reused: 0,
     })
 }

@@ -1,4 +1,5 @@
--- What a run over files leaves, and why it was not done. Trees, texts and counts stand in pairs: before the call, and after it.
+-- What a run over files leaves, and why it has no outcome. Trees, texts and counts come in pairs: before the call, and
+-- after it.
 use Rattle.std.specs.Prelude.{◌≡◌, ◌<◌, ◌⊎◌, ℕ, List, Option, IfSome, true, false}
 use Rattle.elm_files.specs.Texts.{LongerByPart, longer}
 use Rattle.elm_files.specs.Tree.{Tree}
@@ -10,38 +11,40 @@ use Rattle.elm_run.specs.declared.course.Ended.TheVariants as ended
 use Rattle.elm_run.specs.declared.course.RunEnd.{RunEnd}
 use Rattle.elm_run.specs.declared.course.RunEnd.TheVariants.{File, Sink, NoMemory}
 
--- a refused run puts nothing, and its line is told; any other puts the text of the run, and tells whether each input was given
+-- a refused run puts nothing and returns its line; any other puts the text of the run and returns whether every input
+-- was given
 abbrev pub Says : Ended → Outcome → Option (List ℕ) → Option (List ℕ) → Type 0
 Says (ended.Refused line) outcome out out' = (outcome ≡ Refused line.items) × (out' ≡ out)
 Says ended.Ready outcome out out' = (trace : Trace) × (outcome ≡ Ran trace) × (is_ready trace ≡ true) × (out' ≡ longer out (told_text trace))
 Says ended.Stopped outcome out out' = (trace : Trace) × (outcome ≡ Ran trace) × (is_ready trace ≡ false) × (out' ≡ longer out (told_text trace))
 
--- what the files come to, and nothing else, is what was said
+-- the files have exactly one outcome, and that was reported
 pub record IsRun (tree : Option Tree) (program inputs : List ℕ) (fuel : ℕ) (out out' : Option (List ℕ)) (end : Ended) : Type 0 where
   pub outcome : Outcome
   pub found : IfSome tree (λ files. Runs files program inputs fuel outcome)
   pub only : IfSome tree (λ files. (other : Outcome) → Runs files program inputs fuel other → other ≡ outcome)
   pub says : Says end outcome out out'
 
--- the files come to this run, of whose text a front part was put
+-- the files give a run, and a beginning of its text was put
 pub record IsRunInPart (tree : Option Tree) (program inputs : List ℕ) (fuel : ℕ) (out out' : Option (List ℕ)) : Type 0 where
   pub trace : Trace
   pub found : IfSome tree (λ files. Runs files program inputs fuel (Ran trace))
   pub told : LongerByPart out (told_text trace) out'
 
--- a file's path, or the sink, is told only where its count of faults rose
+-- a path or the sink is reported only if its count of failures rose
 abbrev pub HasCause : RunEnd → (List ℕ → ℕ) → (List ℕ → ℕ) → ℕ → ℕ → Type 0
 HasCause (File path) files files' out out' = files path < files' path
 HasCause Sink files files' out out' = out < out'
 HasCause NoMemory files files' out out' = Unit {0}
 
--- no count rises without being told: the sink's where a file is told, those of the files where the sink is told, and none where memory is wanting
+-- no count rises without a report: not the sink's if a path is reported, not those of files if the sink is reported,
+-- and none if memory ran out
 abbrev pub IsToldIfRose : RunEnd → (List ℕ → ℕ) → (List ℕ → ℕ) → ℕ → ℕ → Type 0
 IsToldIfRose (File path) files files' out out' = out' ≡ out
 IsToldIfRose Sink files files' out out' = files' ≡ files
 IsToldIfRose NoMemory files files' out out' = (files' ≡ files) × (out' ≡ out)
 
--- nothing was put where a file failed; else a front part of the run's text may have been
+-- nothing was put if a file failed; otherwise a beginning of the text of the run may have been
 abbrev pub LeavesAtEnd : RunEnd → Option Tree → List ℕ → List ℕ → ℕ → Option (List ℕ) → Option (List ℕ) → Type 0
 LeavesAtEnd (File path) tree program inputs fuel out out' = out' ≡ out
 LeavesAtEnd Sink tree program inputs fuel out out' = IsRunInPart tree program inputs fuel out out'

@@ -1,4 +1,4 @@
--- Runs: what a run over two files comes to, by what they hold and by the fuel.
+-- Runs: the outcome of a run over two files, by what they hold and by the fuel.
 use Rattle.std.specs.Prelude.{◌≡◌, ℕ, List, [], true, if◌then◌else◌, MatchBool, Option, Some, None, nat_le, length}
 use Rattle.elm_base.specs.declared.fault.Code.{Code}
 use Rattle.elm_base.specs.declared.fault.Code.TheVariants.{FileMissing, NotElmcOutput, BadInputLine, UnknownPort as unknown_port, GivenFileTooLarge}
@@ -41,8 +41,8 @@ outcome_with program fuel path (Some text) =
     then outcome_for program fuel path (given (names_of program.ins) text)
     else Refused (file_line GivenFileTooLarge path)
 
--- The text, at this path, is that of a program of the subset, and this comes of the program; or it is that of none, and is refused where it
--- stops to be one.
+-- The text at this path is that of a program of the subset, which has its outcome by `comes`; or it is the text of
+-- none, and is refused at the place where it stops being one.
 pub data IsRunOf (path text : List ℕ) (comes : Program → Outcome) : Outcome → Type 0 where
   a_program : (program : Program) → in_subset program ≡ true → JsText program text → IsRunOf path text comes (comes program)
   no_program : (place : Place) → ((program : Program) → in_subset program ≡ true → JsText program text → ⊥) → IsFaultAt text place → IsRunOf path text comes (Refused (line_at NotElmcOutput path place.row place.column []))

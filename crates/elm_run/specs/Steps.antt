@@ -1,4 +1,4 @@
--- What the steps of a run put; for private clauses.
+-- What the steps of a run put. Only private clauses use this.
 use Rattle.std.specs.Prelude.{◌≡◌, ◌<◌, ◌≤◌, ◌⊎◌, ℕ, List, [], ◌++◌, Bool, true, false, Option, Some, None, IfSome, Result, Ok, Err, nat_le, length, if◌then◌else◌}
 use Rattle.elm_base.specs.declared.fault.Code.TheVariants.{FileMissing, GivenFileTooLarge}
 use Rattle.elm_files.specs.Texts.{LongerByPart, longer}
@@ -37,7 +37,7 @@ abbrev pub is_done : Outcome → Bool
 is_done Done = true
 is_done _ = false
 
--- an input is done or refused, and the next can come
+-- an input is done or refused, and the next one can be given
 abbrev pub goes_on : Outcome → Bool
 goes_on Done = true
 goes_on Refused = true
@@ -47,7 +47,7 @@ abbrev pub IsRunning : {V : Type 0} → State V → Type 0
 IsRunning (Running main model) = Unit {0}
 IsRunning (Over end) = ⊥
 
--- how a program stands after its start, by the end of that
+-- the state of a program after its start, by how that ended
 abbrev pub IsBegun : {V : Type 0} → State V → Outcome → Type 0
 IsBegun state Done = IsRunning state
 IsBegun state Refused = state ≡ Over Refused
@@ -56,7 +56,7 @@ IsBegun state OutOfFuel = state ≡ Over OutOfFuel
 IsBegun state Unsafe = state ≡ Over Unsafe
 IsBegun state Stuck = state ≡ Over Stuck
 
--- what is told of a program that was started, with these sends
+-- the trace of a program that was started, with these sends
 abbrev pub begun_trace : {V : Type 0} → Machine V → ℕ → List (List ℕ × Wire) → State V → List (List ℕ × Wire) → Trace
 begun_trace machine fuel inputs state sends = send_all sends (told machine fuel inputs state)
 
@@ -66,7 +66,7 @@ Tells (ended.Refused line) trace out out' = ⊥
 Tells ended.Ready trace out out' = (is_ready trace ≡ true) × (out' ≡ longer out (told_text trace))
 Tells ended.Stopped trace out out' = (is_ready trace ≡ false) × (out' ≡ longer out (told_text trace))
 
--- a front part of this text was put, and the sink failed, or memory was wanting
+-- a beginning of this text was put, and then the sink failed or memory ran out
 abbrev pub PutsPart : RunEnd → List ℕ → Option (List ℕ) → Option (List ℕ) → ℕ → ℕ → Type 0
 PutsPart (File path) piece out out' count count' = ⊥
 PutsPart Sink piece out out' count count' = (count < count') × LongerByPart out piece out'
@@ -91,17 +91,17 @@ IsFileEnd (File path) files files' = files path < files' path
 IsFileEnd Sink files files' = ⊥
 IsFileEnd NoMemory files files' = files' ≡ files
 
--- it comes to this run, of whose text a front part was put
+-- the outcome is this run, and a beginning of its text was put
 abbrev pub IsCut : runs.Outcome → Option (List ℕ) → Option (List ℕ) → Type 0
 IsCut outcome out out' = (trace : Trace) × (outcome ≡ runs.Ran trace) × LongerByPart out (told_text trace) out'
 
--- it comes to this, and was cut off by the sink or for want of memory
+-- the outcome is this, and it was cut off because the sink failed or memory ran out
 abbrev pub StopsAt : RunEnd → runs.Outcome → Option (List ℕ) → Option (List ℕ) → ℕ → ℕ → Type 0
 StopsAt (File path) outcome out out' count count' = ⊥
 StopsAt Sink outcome out out' count count' = (count < count') × IsCut outcome out out'
 StopsAt NoMemory outcome out out' count count' = (count' ≡ count) × ((out' ≡ out) ⊎ IsCut outcome out out')
 
--- of the files one thing comes, in the way R tells, and that was said
+-- the files have exactly one outcome by R, and that was reported
 pub record IsRunBy (tree : Option Tree) (R : Tree → runs.Outcome → Type 0) (out out' : Option (List ℕ)) (end : Ended) : Type 0 where
   pub outcome : runs.Outcome
   pub found : IfSome tree (λ files. R files outcome)
@@ -116,13 +116,13 @@ LeavesBy (File path) tree R out out' = out' ≡ out
 LeavesBy Sink tree R out out' = IsCutBy tree R out out'
 LeavesBy NoMemory tree R out out' = (out' ≡ out) ⊎ IsCutBy tree R out out'
 
--- why it was not done, and what that leaves
+-- why there is no outcome, and what is left then
 pub record IsStop (end : RunEnd) (tree : Option Tree) (R : Tree → runs.Outcome → Type 0) (out out' : Option (List ℕ)) (files files' : List ℕ → ℕ) (count count' : ℕ) : Type 0 where
   pub cause : HasCause end files files' count count'
   pub told : IsToldIfRose end files files' count count'
   pub leaves : LeavesBy end tree R out out'
 
--- with the inputs in the file at this path, this comes of a program
+-- the outcome of a program with the inputs in the file at this path
 abbrev pub OfProgram : Program → ℕ → List ℕ → Tree → runs.Outcome → Type 0
 OfProgram program fuel inputs files outcome = outcome ≡ runs.outcome_with program fuel inputs (files inputs)
 

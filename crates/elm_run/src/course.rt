@@ -27,20 +27,20 @@ use js_tree::trees::Trees;
 use run_text::given::{Given, read_inputs};
 use std::alloc::{AllocError, Global};
 
-/// The text of a program that is longer, in bytes, is refused.
+/// The most bytes that the text of a program may have.
 const MAX_PROGRAM: u64 = 67_108_864;
 
-/// The text of inputs that is longer, in bytes, is refused.
+/// The most bytes that the text of inputs may have.
 const MAX_INPUTS: u64 = 4_194_304;
 
 /// How a run ended.
 #[derive(Drop)]
 pub enum Ended {
-    /// Each input was given.
+    /// Every input was given.
     Ready,
-    /// An end came before that: its line was put.
+    /// The run ended before that, and the line of its end was put.
     Stopped,
-    /// There was no run, and this line, with its line feed, tells why.
+    /// There was no run. This line, with its line feed, says why.
     Refused(Vec<u8>),
 }
 
@@ -80,7 +80,7 @@ fn file_line(alloc: Global, code: Code, path: &str) -> Result<Vec<u8>, AllocErro
     line_at(alloc, code, path, Pos { row: 1, column: 1 }, b"")
 }
 
-/// Reads the file at `path`, of `limit` bytes at most.
+/// Reads the file at `path`, which may have at most `limit` bytes.
 fn read_file<F: Files>(
     alloc: Global,
     files: &mut F,
@@ -185,7 +185,7 @@ fn run_trees<F: Files, O: Sink>(
     let bump = Bump::new(alloc);
     match load(alloc, &bump, trees)? {
         Some(program) => run_program(alloc, &bump, files, out, &program, inputs, fuel),
-        // Does not happen: what was read is a program.
+        // This does not happen: what was read is a program.
         None => Err(RunEnd::NoMemory),
     }
 }
@@ -219,10 +219,11 @@ fn run_source<F: Files, O: Sink>(
     }
 }
 
-/// Runs the output in the file `program` with the flags and the inputs in the file `inputs`, and puts its sends, the inputs that are
-/// refused, and an end before all inputs were given, a line each, as they come.
+/// Runs the output in the file `program` with the flags and the inputs in the file `inputs`. Puts a line for each send,
+/// for each refused input, and for an end before every input was given, as they arise.
 ///
-/// Both are paths of `files`. `fuel` is the number of calls and turns of loops that the start may take, and each input anew.
+/// Both are paths of `files`. `fuel` is the number of calls and turns of loops that the start may take. Each input may
+/// take the same again.
 pub fn run<F: Files, O: Sink>(
     alloc: Global,
     files: &mut F,
@@ -234,12 +235,12 @@ pub fn run<F: Files, O: Sink>(
     requires files { NoneFull (F.faults files.old) }
     requires out { O.faults out.old < 18446744073709551615 }
 
-    // What it comes to, what it puts, and what it leaves.
+    // The outcome, what the run puts, and what it leaves.
     ensures ran { IfOk result (λ ended. IsRun (F.tree files.old) program.now inputs.now fuel (O.text out.old) (O.text out.new) ended) }
     ensures keeps { F.tree files.new ≡ F.tree files.old }
     ensures no_fault { IfOk result (λ _. (F.faults files.new ≡ F.faults files.old) × (O.faults out.new ≡ O.faults out.old)) }
 
-    // Why it was not done, and what it leaves then.
+    // Why there is no outcome, and what the run leaves then.
     ensures cause { IfErr result (λ end. HasCause end (F.faults files.old) (F.faults files.new) (O.faults out.old) (O.faults out.new)) }
     ensures told { IfErr result (λ end. IsToldIfRose end (F.faults files.old) (F.faults files.new) (O.faults out.old) (O.faults out.new)) }
     ensures part { IfErr result (λ end. LeavesAtEnd end (F.tree files.old) program.now inputs.now fuel (O.text out.old) (O.text out.new)) }

@@ -4,7 +4,5 @@
 mod course;
 mod lines;
 mod session;
-#[cfg(test)]
-mod tests;
 
 pub use course::{Ended, RunEnd, run};

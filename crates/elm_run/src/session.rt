@@ -1,4 +1,4 @@
-//! A run, put line by line.
+//! A run, printed line by line.
 
 ghost use Rattle.std.specs.Prelude.{◌≡◌, ◌<◌, IfErr, IfOk, OnOk, map};
 ghost use Rattle.elm_files.specs.Texts.{longer};
@@ -31,7 +31,7 @@ fn is_done(end: &End) -> bool
     }
 }
 
-/// Whether an input is done or refused, so that the next can come.
+/// Whether an input is done or refused, so that the next one can be given.
 fn goes_on(end: &End) -> bool
     ensures { result ≡ goes_on (end_view end.now) }
 {
@@ -55,7 +55,7 @@ fn put<O: Sink>(out: &mut O, lines: &[u8]) -> Result<(), RunEnd>
     }
 }
 
-/// Gives a program that waits an input, and puts what it answers. The answer is whether the next input can come.
+/// Gives an input to a waiting program, and puts the lines of its answer. Returns whether the next input can be given.
 #[tactic(auto, using(crate::proofs::Remains::nothing))]
 fn give<'t, O: Sink>(
     alloc: Global,
@@ -78,7 +78,7 @@ fn give<'t, O: Sink>(
     Ok(goes_on(&answer.end))
 }
 
-/// Gives a program that waits its inputs, one after the other, until an end.
+/// Gives a waiting program its inputs, one after the other, until it ends.
 fn give_all<'t, O: Sink>(
     alloc: Global,
     app: &mut App<'t>,
@@ -102,7 +102,7 @@ fn give_all<'t, O: Sink>(
     Ok(Ended::Ready)
 }
 
-/// Puts what the start of a program answered, and gives it its inputs where the start is done.
+/// Puts the lines of the start, and gives the program its inputs if the start is done.
 #[tactic(auto, using(crate::proofs::Remains::nothing))]
 fn go_on<'t, O: Sink>(
     alloc: Global,
@@ -128,7 +128,7 @@ fn go_on<'t, O: Sink>(
     give_all(alloc, app, out, inputs, fuel)
 }
 
-/// Starts a program with its flags, gives it its inputs, and puts what it answers, as it comes.
+/// Starts a program with its flags, gives it its inputs, and puts the lines of its answers as they arise.
 #[tactic(auto, using(crate::proofs::Remains::nothing, crate::proofs::Giving::session_begun))]
 pub fn run_session<'t, O: Sink>(
     alloc: Global,

@@ -5,7 +5,7 @@ use Rattle.wire_value.specs.Exact.{is_exact}
 use Rattle.runs.specs.Ends.{End, Val, Unsafe}
 use Rattle.elm_canon.specs.Tree.{Ref, same_ref, Pattern, Named, Anything, Operator, Add, Expr, Int, Var, Lambda, Apply, Binary, UnitOf, Pair, Triple, Record, Exprs, NoExpr, MoreExpr, Fields, NoField, MoreField, Defs, NoDef, MoreDef, Payload, IntPayload, UnitPayload}
 use Rattle.elm_canon.specs.Values.{Value, IntV, UnitV, TagV, RecordV, CloV, WrapperV, PortV, SendV, BatchV, Env, Nil, Bind, BindGroup, member, lookup, bind_pattern}
-use Rattle.elm_canon.specs.Eval.{operate, Call, eval_with, apply_with, fields_with, unshape, enter, call_at}
+use Rattle.elm_canon.specs.Eval.{operate, Call, eval_with, apply_with, fields_with, unshape, enter, body_at, call_at}
 use Rattle.elm_type.specs.Types.{ElmType, FunctionType, NoType, MoreTypes, FieldTypes, Scheme, Every, IsInstance, int_type, command_type, program_type, worker_record}
 use Rattle.elm_type.specs.Typing.{Context, scheme_of, with_parameter, operand_type, HasType, Takes, HaveFieldTypes, with_members, MembersHave, payload_type}
 use Rattle.elm_type.proofs.Values.{EndsWell, then_well, ValueHas, FieldValuesHave, EnvHas}
@@ -112,33 +112,40 @@ sent_well IntPayload v h =
     subst (λ x. EndsWell (λ w. Unit {0}) (unshape IntPayload x)) (sym n.1) tt
 sent_well UnitPayload v h = subst (λ x. EndsWell (λ w. Unit {0}) (unshape UnitPayload x)) (sym (is_unit v h)) tt
 
+-- a function's body ends well
+abbrev BodiesWell : (Expr → Env → End Value) → Type 0
+BodiesWell body = (e : Expr) (env : Env) (context : Context) (t : ElmType) → EnvHas env context → HasType context e t → EndsWell (λ v. ValueHas v t) (body e env)
+
 -- a value of a function's type can be called
-entered : (call : Call) → CallsWell call → CallsWell (λ f v. enter (eval_with call) f v)
-entered call calls (CloV env p e) v a b h k =
+entered : (body : Expr → Env → End Value) → BodiesWell body → CallsWell (enter body)
+entered body bodies (CloV env p e) v a b h k =
     let t = h.2 in
     let x = t.3 in
     let from : a ≡ t.0 = cc in
     let to : t.1 ≡ b = cc in
-    subst (λ q. EndsWell (λ w. ValueHas w q) (eval_with call e (bind_pattern p v env))) to
-    (evaluated call calls e (bind_pattern p v env) (with_parameter p t.0 h.0) t.1 (bound p v t.0 env h.0 (subst (λ q. ValueHas v q) from k) h.1) t.2)
-entered call calls (WrapperV i) v a b h k =
+    subst (λ q. EndsWell (λ w. ValueHas w q) (body e (bind_pattern p v env))) to
+    (bodies e (bind_pattern p v env) (with_parameter p t.0 h.0) t.1 (bound p v t.0 env h.0 (subst (λ q. ValueHas v q) from k) h.1) t.2)
+entered body bodies (WrapperV i) v a b h k =
     let x = h.4 in
     let from : a ≡ worker_record h.0 h.1 h.2 = cc in
     let to : b ≡ program_type h.0 h.1 h.2 = cc in
     (MoreTypes a NoType, (k, tt), (h.0, h.1, h.2, h.3, from, to))
-entered call calls (PortV port p) v a b h k =
+entered body bodies (PortV port p) v a b h k =
     let x = h.1 in
     let from : a ≡ payload_type p = cc in
     let to : b ≡ command_type h.0 = cc in
     then_well (λ w. Unit {0}) (λ u. ValueHas u b) (unshape p v) (λ w. Val (SendV port w)) (sent_well p v (subst (λ q. ValueHas v q) from k)) (λ w _. (h.0, to))
-entered call calls (IntV z) v a b h k = absurd (cc)
-entered call calls UnitV v a b h k = absurd (cc)
-entered call calls (TagV i vs) v a b h k = absurd (differ (made i h.0 (FunctionType a b) h.2))
-entered call calls (RecordV fs) v a b h k = absurd (let e = h.2 in cc)
-entered call calls (SendV port w) v a b h k = absurd (let e = h.1 in cc)
-entered call calls (BatchV list) v a b h k = absurd (differ (batched (FunctionType a b) h.1))
+entered body bodies (IntV z) v a b h k = absurd (cc)
+entered body bodies UnitV v a b h k = absurd (cc)
+entered body bodies (TagV i vs) v a b h k = absurd (differ (made i h.0 (FunctionType a b) h.2))
+entered body bodies (RecordV fs) v a b h k = absurd (let e = h.2 in cc)
+entered body bodies (SendV port w) v a b h k = absurd (let e = h.1 in cc)
+entered body bodies (BatchV list) v a b h k = absurd (differ (batched (FunctionType a b) h.1))
 
 -- with any fuel
+bodies_well : (n : ℕ) → BodiesWell (body_at n)
+bodies_well zero e env context t fits h = tt
+bodies_well (suc n) e env context t fits h = evaluated (enter (body_at n)) (entered (body_at n) (bodies_well n)) e env context t fits h
+
 pub called : (n : ℕ) → CallsWell (call_at n)
-called zero f v a b h k = tt
-called (suc n) f v a b h k = entered (call_at n) (called n) f v a b h k
+called n = entered (body_at n) (bodies_well n)

@@ -1,4 +1,4 @@
--- What `run` comes to, and what it leaves. Trees and texts stand in pairs: before the call, and after it.
+-- What `run` does, and what it leaves. Trees and texts come in pairs: before the call, and after it.
 use Rattle.std.specs.Prelude.{◌≡◌, ◌⊎◌, ℕ, List, Bool, false, Option, Some, IfSome, if◌then◌else◌}
 use Rattle.command_line.specs.Command.{run}
 use Rattle.command_line.specs.Given.{command_line}
@@ -8,7 +8,7 @@ use Rattle.elm_run.specs.Runs.{Outcome, Refused, Ran, Runs}
 use Rattle.run_text.specs.Told.{told_text, is_ready}
 use Rattle.runs.specs.Trace.{Trace}
 
--- the words are those of `run`, and this holds of their program, their inputs and their fuel
+-- the words are those of `run`, and P holds of their program, their inputs and their fuel
 pub record Executes (words : List (List ℕ)) (P : List ℕ → List ℕ → ℕ → Type 0) : Type 0 where
   pub program : List ℕ
   pub inputs : List ℕ
@@ -16,7 +16,8 @@ pub record Executes (words : List (List ℕ)) (P : List ℕ → List ℕ → ℕ
   pub asked : command_line words ≡ Some (run program inputs fuel)
   pub holds : P program inputs fuel
 
--- the files come to a run in which each input was given, or not, as is said; `out` has its text more, and nothing else changed
+-- the files give a run; `ready` says whether every input was given; `out` grew by the text of the run, and nothing else
+-- changed
 pub record IsTold (ready : Bool) (tree tree' : Option Tree) (out out' err err' : Option (List ℕ)) (program inputs : List ℕ) (fuel : ℕ) : Type 0 where
   pub trace : Trace
   pub found : IfSome tree (λ files. Runs files program inputs fuel (Ran trace))
@@ -25,7 +26,7 @@ pub record IsTold (ready : Bool) (tree tree' : Option Tree) (out out' err err' :
   pub left : tree' ≡ tree
   pub quiet : err' ≡ err
 
--- they come to no run, but to this line; `err` has it more, and nothing else changed
+-- the files give no run, but this line; `err` grew by it, and nothing else changed
 pub record IsTurnedDown (tree tree' : Option Tree) (out out' err err' : Option (List ℕ)) (program inputs : List ℕ) (fuel : ℕ) : Type 0 where
   pub line : List ℕ
   pub refusal : IfSome tree (λ files. Runs files program inputs fuel (Refused line))
@@ -33,24 +34,24 @@ pub record IsTurnedDown (tree tree' : Option Tree) (out out' err err' : Option (
   pub said : err' ≡ longer err line
   pub quiet : out' ≡ out
 
--- status 1: a run that ended before each input was given, or none
+-- status 1: a run that ended before every input was given, or no run
 abbrev pub IsNotReady : Option Tree → Option Tree → Option (List ℕ) → Option (List ℕ) → Option (List ℕ) → Option (List ℕ) → List ℕ → List ℕ → ℕ → Type 0
 IsNotReady tree tree' out out' err err' program inputs fuel =
     IsTold false tree tree' out out' err err' program inputs fuel ⊎ IsTurnedDown tree tree' out out' err err' program inputs fuel
 
--- they come to no run, and `err` has the line more, or a part of it
+-- the files give no run, and `err` grew by a beginning of the line
 pub record IsTurnedDownByPart (tree : Option Tree) (err err' : Option (List ℕ)) (program inputs : List ℕ) (fuel : ℕ) : Type 0 where
   pub line : List ℕ
   pub refusal : IfSome tree (λ files. Runs files program inputs fuel (Refused line))
   pub said : LongerByPart err line err'
 
--- they come to a run, and `out` has its text more, or a part of it
+-- the files give a run, and `out` grew by a beginning of its text
 pub record IsToldByPart (tree : Option Tree) (out out' : Option (List ℕ)) (program inputs : List ℕ) (fuel : ℕ) : Type 0 where
   pub trace : Trace
   pub found : IfSome tree (λ files. Runs files program inputs fuel (Ran trace))
   pub told : LongerByPart out (told_text trace) out'
 
--- the status of what the files come to: 0 where each input was given, else 1
+-- the exit status of an outcome: 0 if every input was given, otherwise 1
 abbrev pub status_of : Outcome → ℕ
 status_of (Refused line) = 1
 status_of (Ran trace) = if is_ready trace then 0 else 1

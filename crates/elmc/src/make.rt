@@ -17,12 +17,11 @@ use std::alloc::Global;
 use std::sync::Wait;
 use std::thread::Threads;
 
-/// Builds the program of the module at `entry` into the file at `output`, with `jobs` workers (1 to 64), and tells
-/// what that comes to: on `out` that the program is written, and on `err` why it is not. `gate` stands round each
-/// compile.
+/// Builds the program of the module at `entry` into the file at `output`. Prints on `out` that the program is written,
+/// or on `err` why it is not. `jobs` is the number of workers (1 to 64), and `gate` stands around each compile.
 ///
-/// The answer is the status of the process: 0 where the program is written; 1 where it is refused; 3 where a call on a
-/// file or a sink failed; 4 where memory ran out.
+/// Returns the exit status of the process: 0 if the program is written; 1 if it is refused; 3 if a call on a file or a
+/// sink failed; 4 if memory ran out.
 pub fn make_program<R: Threads + Wait + Sync, F: Files, O: Sink, E: Sink, G: Gate + Sync>(
     rt: &R,
     alloc: Global,
@@ -50,16 +49,16 @@ pub fn make_program<R: Threads + Wait + Sync, F: Files, O: Sink, E: Sink, G: Gat
     ensures no_err_fault { result ≢ 3 → result ≢ 4 → E.faults err.new ≡ E.faults err.old }
     ensures memory { result ≡ 4 → LongerByPart (E.text err.old) memory_line (E.text err.new) }
 
-    // What is put then.
+    // What is printed then.
     ensures names_file { SomeRose (F.faults files.old) (F.faults files.new) → TellsFile (F.faults files.old) (F.faults files.new) (E.text err.old) (E.text err.new) }
     ensures on_out { (O.text out.new ≡ O.text out.old) ⊎ IsWrittenAndTold (F.tree files.old) (F.tree files.new) (O.text out.old) (O.text out.new) entry.now output.now }
     ensures on_err { result ≡ 3 → F.faults files.new ≡ F.faults files.old → (E.text err.new ≡ E.text err.old) ⊎ IsRefusedByPart (F.tree files.old) (E.text err.old) (E.text err.new) entry.now output.now }
 
-    // What is left.
+    // What the build leaves.
     ensures elsewhere { SameElsewhere (normal_path output.now) (F.tree files.old) (F.tree files.new) }
     ensures kept { F.faults files.new ≡ F.faults files.old → (F.tree files.new ≡ F.tree files.old) ⊎ IsWritten (F.tree files.old) (F.tree files.new) entry.now output.now }
 
-    // The statuses that come where the files come to a text, and where they do not.
+    // The status when the files give a text, and when they do not.
     ensures complete { (tree : Tree) (text : List ℕ) → F.tree files.old ≡ Some tree → Clean tree entry.now output.now (text_of text) → result ≢ 0 → IsEither result 3 4 }
     ensures refuses { (tree : Tree) (lines : List ℕ) → F.tree files.old ≡ Some tree → IsRefusal tree entry.now output.now lines → result ≢ 1 → IsEither result 3 4 }
 {

@@ -1,4 +1,4 @@
-//! What the program puts on its sinks.
+//! What the program prints on its sinks.
 
 ghost use Rattle.std.specs.Prelude.{◌≡◌, ◌≢◌, ◌<◌, IfOk};
 ghost use Rattle.elm_files.specs.Answers.{FailedIffRose};
@@ -8,7 +8,7 @@ ghost use Rattle.elmc.specs.Causes.{IsEither, failure_line, memory_line};
 use elm_base::text::Text;
 use elm_files::{FileError, Sink};
 
-/// Puts a line on `out`, and answers 0; 3 where that fails, and 4 where memory is wanting.
+/// Prints a line on `out`, and returns 0; 3 if that fails, and 4 if memory runs out.
 pub fn printed<O: Sink, E: Sink>(out: &mut O, err: &mut E, line: &[u8]) -> u8
     requires out { O.faults out.old < 18446744073709551615 }
     ensures known { (result ≢ 0) → IsEither result 3 4 }
@@ -28,7 +28,7 @@ pub fn printed<O: Sink, E: Sink>(out: &mut O, err: &mut E, line: &[u8]) -> u8
     }
 }
 
-/// Puts lines on `err`, and answers `status`; 3 where that fails, and 4 where memory is wanting.
+/// Prints lines on `err`, and returns `status`; 3 if that fails, and 4 if memory runs out.
 pub fn said<E: Sink>(err: &mut E, lines: &[u8], status: u8) -> u8
     requires err { E.faults err.old < 18446744073709551615 }
     requires status { status < 3 }
@@ -46,7 +46,7 @@ pub fn said<E: Sink>(err: &mut E, lines: &[u8], status: u8) -> u8
     }
 }
 
-/// Reports that the file at `path` failed. It takes no memory, so that want of memory never hides the failure.
+/// Reports that the file at `path` failed. This needs no memory, so out of memory never hides the failure.
 pub fn file_failed<E: Sink>(err: &mut E, path: &Text) -> u8
     ensures status { result ≡ 3 }
     ensures told { LongerByPart (E.text err.old) (failure_line path.now) (E.text err.new) }
@@ -55,7 +55,7 @@ pub fn file_failed<E: Sink>(err: &mut E, path: &Text) -> u8
     3
 }
 
-/// Puts `elmc: failed: PATH`, piece by piece.
+/// Prints `elmc: failed: PATH`, piece by piece.
 fn put_failure<E: Sink>(err: &mut E, path: &Text) -> Result<(), FileError>
     ensures whole { IfOk result (λ _. E.text err.new ≡ longer (E.text err.old) (failure_line path.now)) }
     ensures part { LongerByPart (E.text err.old) (failure_line path.now) (E.text err.new) }

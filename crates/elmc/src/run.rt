@@ -13,12 +13,12 @@ use elm_files::{Files, Sink};
 use elm_run::{Ended, RunEnd, run};
 use std::alloc::Global;
 
-/// Runs the JavaScript in the file at `program` on the inputs in the file at `inputs`, and puts the text of the run on
+/// Runs the JavaScript in the file at `program` on the inputs in the file at `inputs`. Prints the text of the run on
 /// `out`, or on `err` why there is none. `fuel` is the number of calls of functions and turns of loops that the start
-/// may take, and each input anew.
+/// may take. Each input may take the same again.
 ///
-/// The answer is the status of the process: 0 where each input was given; 1 where the run ended before that, or is
-/// refused; 3 where a call on a file or a sink failed; 4 where memory ran out.
+/// Returns the exit status of the process: 0 if every input was given; 1 if the run ended before that, or is refused; 3
+/// if a call on a file or a sink failed; 4 if memory ran out.
 pub fn run_program<F: Files, O: Sink, E: Sink>(
     alloc: Global,
     files: &mut F,
@@ -44,7 +44,7 @@ pub fn run_program<F: Files, O: Sink, E: Sink>(
     ensures no_err_fault { result ≢ 3 → result ≢ 4 → E.faults err.new ≡ E.faults err.old }
     ensures memory { result ≡ 4 → LongerByPart (E.text err.old) memory_line (E.text err.new) }
 
-    // What is put then.
+    // What is printed then.
     ensures names_file { SomeRose (F.faults files.old) (F.faults files.new) → TellsFile (F.faults files.old) (F.faults files.new) (E.text err.old) (E.text err.new) }
     ensures on_out { (O.text out.new ≡ O.text out.old) ⊎ IsToldByPart (F.tree files.old) (O.text out.old) (O.text out.new) program.now inputs.now fuel }
     ensures on_err { result ≡ 3 → F.faults files.new ≡ F.faults files.old → (E.text err.new ≡ E.text err.old) ⊎ IsTurnedDownByPart (F.tree files.old) (E.text err.old) (E.text err.new) program.now inputs.now fuel }
@@ -52,7 +52,7 @@ pub fn run_program<F: Files, O: Sink, E: Sink>(
     // No file changes.
     ensures reads { F.tree files.new ≡ F.tree files.old }
 
-    // The status that comes of what the files come to.
+    // The status of each outcome of the files.
     ensures complete { (tree : Tree) (outcome : Outcome) → F.tree files.old ≡ Some tree → Runs tree program.now inputs.now fuel outcome → result ≢ status_of outcome → IsEither result 3 4 }
 {
     match run(alloc, files, out, program, inputs, fuel) {

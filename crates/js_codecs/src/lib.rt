@@ -5,6 +5,5 @@ pub mod codec;
 pub mod decode;
 pub mod encode;
 pub mod lists;
-#[cfg(test)]
-mod tests;
 pub mod update;
+mod vectors;

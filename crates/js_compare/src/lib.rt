@@ -11,5 +11,3 @@ pub mod pairs;
 pub mod part;
 pub mod tag;
 pub mod task;
-#[cfg(test)]
-mod tests;

@@ -5,7 +5,7 @@ use Rattle.wire_value.specs.Wire.{null, int}
 use Rattle.runs.specs.Trace.{Then, Sent, Ends, Ready, FlagsRefused, NoFuel}
 use Rattle.elm_canon.specs.Tree.{Local, Top, Named, Anything, Expr, Int, Var, Lambda, Apply, UnitOf, Pair, Record, NoExpr, MoreExpr, NoField, MoreField, Payload, IntPayload, UnitPayload, Flags, AnyFlags, IntFlags, Wrapper, EmptyBatch, OutPort, Constant, Given, Project}
 use Rattle.elm_canon.specs.Run.{SourceRun}
-use Rattle.js_tree.specs.Run.{JsRun}
+use Rattle.js_meaning.specs.Run.{JsRun}
 use Rattle.js_tree.specs.Text.{lines_text, main_text}
 use Rattle.js_tree.specs.Subset.{in_subset}
 use Rattle.js_emit.specs.Emit.{Emit}
@@ -40,8 +40,12 @@ project_of a = project_with IntPayload AnyFlags a
 scoped : groups_scoped [] (project_of (Int 42)).groups (project_of (Int 42)).main ≡ true
 scoped = refl
 
-sends : SourceRun (project_of (Int 42)) null [] 5 ≡ Then (Sent (codes "out") (int (pos 42))) (Ends Ready)
+-- the body of `init` takes the one unit; the calls of the constructor and of the port take none
+sends : SourceRun (project_of (Int 42)) null [] 1 ≡ Then (Sent (codes "out") (int (pos 42))) (Ends Ready)
 sends = refl
+
+sends_nothing : SourceRun (project_of (Int 42)) null [] 0 ≡ Ends NoFuel
+sends_nothing = refl
 
 sends_js : JsRun (Emit (project_of (Int 42))) null [] 7 ≡ Then (Sent (codes "out") (int (pos 42))) (Ends Ready)
 sends_js = refl
@@ -58,20 +62,20 @@ unfolding digits
 in_it = refl
 
 -- () goes out as null
-sends_unit : SourceRun (project_with UnitPayload AnyFlags UnitOf) null [] 5 ≡ Then (Sent (codes "out") null) (Ends Ready)
+sends_unit : SourceRun (project_with UnitPayload AnyFlags UnitOf) null [] 1 ≡ Then (Sent (codes "out") null) (Ends Ready)
 sends_unit = refl
 
 sends_unit_js : JsRun (Emit (project_with UnitPayload AnyFlags UnitOf)) null [] 7 ≡ Then (Sent (codes "out") null) (Ends Ready)
 sends_unit_js = refl
 
 -- flags that are no integer are refused
-refused : SourceRun (project_with UnitPayload IntFlags UnitOf) null [] 5 ≡ Ends FlagsRefused
+refused : SourceRun (project_with UnitPayload IntFlags UnitOf) null [] 0 ≡ Ends FlagsRefused
 refused = refl
 
 refused_js : JsRun (Emit (project_with UnitPayload IntFlags UnitOf)) null [] 7 ≡ Ends FlagsRefused
 refused_js = refl
 
-taken : SourceRun (project_with UnitPayload IntFlags UnitOf) (int (pos 3)) [] 5 ≡ Then (Sent (codes "out") null) (Ends Ready)
+taken : SourceRun (project_with UnitPayload IntFlags UnitOf) (int (pos 3)) [] 1 ≡ Then (Sent (codes "out") null) (Ends Ready)
 taken = refl
 
 taken_js : JsRun (Emit (project_with UnitPayload IntFlags UnitOf)) (int (pos 3)) [] 7 ≡ Then (Sent (codes "out") null) (Ends Ready)

@@ -4,14 +4,15 @@ use Rattle.std.specs.List.{list_any}
 use Rattle.std.specs.Str.{bytes_eq}
 use Rattle.wire_value.specs.Wire.{Wire}
 use Rattle.runs.specs.Ends.{End, Val}
-use Rattle.elm_canon.specs.Tree.{Ref, Pattern, Expr, Payload}
+use Rattle.elm_canon.specs.Tree.{Ref, Pattern, Expr, Payload, Flags, AnyFlags, IntFlags}
 use Rattle.elm_canon.specs.Values.{Value, IntV, UnitV, TagV, RecordV, CloV, WrapperV, PortV, SendV, BatchV, Values, NoValue, MoreValue, FieldValues, NoFieldV, MoreFieldV, Env, lookup}
-use Rattle.js_tree.specs.Tree.{Made, JText, JVar, JCall, Stmts, Return}
+use Rattle.js_tree.specs.Tree.{Made, JText, JVar, JCall, Stmts, Return, DecodeAny, DecodeInt}
 use Rattle.js_tree.specs.Tree as js
-use Rattle.js_tree.specs.Values.{JVal, JNumV, JTextV, JObjV, JCloV, JFields, NoJField, MoreJField, JEnv, j_find}
-use Rattle.js_tree.specs.Run.{wire_of}
+use Rattle.js_meaning.specs.Values.{JVal, JNumV, JTextV, JObjV, JCloV, JCodecV, NoJVal, JFields, NoJField, MoreJField, JEnv, j_find}
+use Rattle.js_meaning.specs.Run.{wire_of}
 use Rattle.js_emit.specs.Emit.{js_name, field_name, js_parameter, behind_parameter, tagged, emit, encoder}
 use Rattle.js_emit.specs.Scoped.{among, with_parameter, is_scoped}
+use Rattle.js_emit.specs.Spelled.{can_spell}
 
 -- the body of a constructor's function, and of a port's
 abbrev pub wrapper_body : ℕ → Stmts
@@ -25,6 +26,15 @@ port_body port t = Return (tagged 0 (js.MoreField (field_name 0) (JText port) (j
 abbrev pub tag_value : ℕ → JFields → JVal
 tag_value k fs = JObjV (MoreJField (codes "$") (JNumV (pos k)) fs)
 
+-- a decoder that has no parts
+abbrev pub decoder_value : Flags → JVal
+decoder_value AnyFlags = JCodecV DecodeAny NoJVal
+decoder_value IntFlags = JCodecV DecodeInt NoJVal
+
+-- the object of the line of `_main`, where this is what `main` is
+abbrev pub main_value : Flags → JVal → JVal
+main_value kind w = JObjV (MoreJField (codes "program") w (MoreJField (codes "flags") (decoder_value kind) (MoreJField (codes "ins") (JObjV NoJField) NoJField)))
+
 module _ (outs : List (List ℕ)) where
   -- the port is one of the program's outgoing ports
   abbrev pub IsOut : List ℕ → Type 0
@@ -37,7 +47,7 @@ module _ (outs : List (List ℕ)) where
       for_unit : For UnitV (JNumV (pos 0))
       for_tag : {k : ℕ} {vs : Values} {ws : JFields} → ForAll 0 vs ws → For (TagV k vs) (tag_value k ws)
       for_record : {vs : FieldValues} {ws : JFields} → ForFields vs ws → For (RecordV vs) (JObjV ws)
-      for_clo : {env : Env} {jenv : JEnv} {p : Pattern} {e : Expr} (d : ℕ) (scope : List Ref) → is_scoped (with_parameter p scope) e ≡ true → ForEnv scope env jenv → For (CloV env p e) (JCloV jenv (js_parameter d p) (emit (behind_parameter d p) e))
+      for_clo : {env : Env} {jenv : JEnv} {p : Pattern} {e : Expr} (d : ℕ) (scope : List Ref) → is_scoped (with_parameter p scope) e ≡ true → can_spell e ≡ true → ForEnv scope env jenv → For (CloV env p e) (JCloV jenv (js_parameter d p) (emit (behind_parameter d p) e))
       for_wrapper : {k : ℕ} {jenv : JEnv} → For (WrapperV k) (JCloV jenv (Made 0) (wrapper_body k))
       for_port : {port : List ℕ} {t : Payload} {jenv : JEnv} → IsOut port → For (PortV port t) (JCloV jenv (Made 0) (port_body port t))
       for_send : {port : List ℕ} {w : Wire} {x : JVal} → IsOut port → wire_of x ≡ Val w → For (SendV port w) (tag_value 0 (MoreJField (field_name 0) (JTextV port) (MoreJField (field_name 1) x NoJField)))
@@ -60,4 +70,8 @@ module _ (outs : List (List ℕ)) where
     -- values that stand for each other, or functions over these very environments
     pub data ForFound : List Ref → Env → JEnv → End Value → End JVal → Type 0 where
       for_found : {scope : List Ref} {env : Env} {jenv : JEnv} {v : Value} {w : JVal} → For v w → ForFound scope env jenv (Val v) (Val w)
-      for_member : {scope : List Ref} {env : Env} {jenv : JEnv} {p : Pattern} {e : Expr} (d : ℕ) → is_scoped (with_parameter p scope) e ≡ true → ForFound scope env jenv (Val (CloV env p e)) (Val (JCloV jenv (js_parameter d p) (emit (behind_parameter d p) e)))
+      for_member : {scope : List Ref} {env : Env} {jenv : JEnv} {p : Pattern} {e : Expr} (d : ℕ) → is_scoped (with_parameter p scope) e ≡ true → can_spell e ≡ true → ForFound scope env jenv (Val (CloV env p e)) (Val (JCloV jenv (js_parameter d p) (emit (behind_parameter d p) e)))
+
+  -- the object of the line of `_main`, for the program that `main` is
+  pub data ForMain (kind : Flags) : Value → JVal → Type 0 where
+    for_main : {v : Value} {w : JVal} → For v w → ForMain kind v (main_value kind w)

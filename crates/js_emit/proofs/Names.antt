@@ -8,7 +8,8 @@ use Rattle.runs.specs.Ends.{End, Val}
 use Rattle.elm_canon.specs.Tree.{Ref, same_ref}
 use Rattle.elm_canon.specs.Tree as source
 use Rattle.js_tree.specs.Tree.{Name, Top, Local, Made, same_name, JArrow, Stmts, Const, Return, declares}
-use Rattle.js_tree.specs.Values.{JVal, JCloV, JEnv, JBind, JBindRun, JHide, run_find, j_find}
+use Rattle.js_meaning.specs.Values.{JVal, JCloV, JEnv, JBind, JBindRun, JHide, run_find, j_find}
+use Rattle.js_meaning.specs.Eval.{inside}
 use Rattle.js_emit.specs.Emit.{js_name}
 use Rattle.js_emit.specs.Scoped.{among}
 
@@ -158,5 +159,7 @@ pub bound_after : (x : Name) (w : JVal) (scope : List Name) (s : Stmts) → IsCl
 bound_after x w scope s clear jenv = bound s (x ∷ scope) clear _ (JBind x w jenv) (λ y new. refl)
 
 -- and so they are where a program begins
-pub opened : (s : Stmts) (scope : List Name) → IsClear scope s → (jenv : JEnv) → IsBound s (JBindRun s (JHide s jenv))
-opened s scope clear jenv = bound s scope clear _ (JHide s jenv) (λ y new. refl)
+pub opened : (s : Stmts) (scope : List Name) → IsClear scope s → (jenv : JEnv) → IsBound s (inside s jenv)
+opened (Const x e s) scope clear jenv = bound (Const x e s) scope clear (inside (Const x e s) jenv) (JHide (Const x e s) jenv) (λ y new. refl)
+opened (Return e) scope clear jenv = tt
+opened _ scope clear jenv = absurd clear

@@ -1,37 +1,46 @@
--- Texts in the order of their units.
-use Rattle.std.proofs.Common.{◌≡◌, ℕ, suc, ◌+◌, ◌≤◌, Bool, true, false, cond, not, if◌then◌else◌, Some, None, List, [], ◌∷◌, length, nat_lt, refl, ap, arith}
-use Rattle.std.specs.List.{position, position_or_len, insert}
-use Rattle.std.specs.Option.{unwrap_or}
-use Rattle.std.specs.Ordering.{is_le, nat_cmp}
+-- The outgoing ports in the order of their names' units.
+use Rattle.std.proofs.Common.{◌≡◌, ℕ, Bool, true, false, not, if◌then◌else◌, List, [], ◌∷◌, refl, ap, ◌∙◌, arith}
+use Rattle.std.specs.Ordering.{is_lt, nat_cmp}
+use Rattle.std.specs.Cmp.{IsStrictWeakOrder}
 use Rattle.std.specs.Cmp.Lexicographic.{slice_cmp}
-use Rattle.std.proofs.lemmas.Cmp.{same_from_slice_cmp}
+use Rattle.std.specs.List.Sorted.{IsSortedBy, IsStableBy}
 use Rattle.std.proofs.lemmas.Bool.Decides.{nat_tests}
-use Rattle.std.proofs.lemmas.List.Sums.{prefix_len-le-length}
-use Rattle.js_emit.specs.Emit.{comes_before, insert_text}
+use Rattle.std.proofs.lemmas.Cmp.{nat_list_cmp_total, same_from_slice_cmp}
+use Rattle.std.proofs.lemmas.List.Sorted.{ranks_by}
+use Rattle.elm_base.proofs.Sorting.{inserted, in_order, sorted_is}
+use Rattle.elm_canon.specs.Run.{name_of}
+use Rattle.elm_canon.specs.Tree.{Group, Functions, Constant, Given, Wrapper, EmptyBatch, OutPort}
+use Rattle.js_emit.specs.Emit.{comes_before, insert_text, port_names, out_ports}
 
--- a text comes before another as their units compare
-pub before_by_cmp : (xs ys : List ℕ) → is_le (slice_cmp nat_cmp xs ys) ≡ comes_before xs ys
-before_by_cmp xs ys = same_from_slice_cmp nat_cmp is_le comes_before refl (λ _ _. refl) (λ _ _. refl) (λ x y xs ys o h. grind (arith, nat_tests)) xs ys _ refl
+abbrev pub before : List ℕ → List ℕ → Bool
+before xs ys = is_lt (slice_cmp nat_cmp xs ys)
 
--- a place is within the texts
-pub place_within : (p : List ℕ → Bool) (ys : List (List ℕ)) → position_or_len p ys ≤ length ys
-place_within p ys = prefix_len-le-length (λ y. not (p y)) ys
+is_order : IsStrictWeakOrder before
+is_order = ranks_by nat_list_cmp_total (λ (xs : List ℕ). xs)
 
-number_or : (k n : ℕ) → k ≤ n → unwrap_or (cond (nat_lt k n) (Some k) None) n ≡ k
-number_or k n h = grind (arith, nat_tests)
+before_by_units : (xs ys : List ℕ) → before xs ys ≡ not (comes_before ys xs)
+before_by_units xs ys =
+    same_from_slice_cmp nat_cmp is_lt (λ us vs. not (comes_before vs us)) refl (λ _ _. refl) (λ _ _. refl) (λ x y xs ys o h. grind (arith, nat_tests)) xs ys _ refl
 
--- the first place that passes, or the texts' number
-pub place_or_length : (p : List ℕ → Bool) (ys : List (List ℕ)) → unwrap_or (position p ys) (length ys) ≡ position_or_len p ys
-place_or_length p ys = number_or (position_or_len p ys) (length ys) (place_within p ys)
+exchanged : {X : Type 0} (b : Bool) (x y : X) → (if not b then x else y) ≡ (if b then y else x)
+exchanged true x y = refl
+exchanged false x y = refl
 
-one_more : (n : ℕ) → 1 + n ≡ suc n
-one_more n = omega arith
+inserted_is : (x : List ℕ) (ys : List (List ℕ)) → inserted before x ys ≡ insert_text x ys
+inserted_is x [] = refl
+inserted_is x (y ∷ ys) =
+    ap (λ b. if b then y ∷ inserted before x ys else x ∷ y ∷ ys) (before_by_units y x)
+    ∙ exchanged (comes_before x y) (y ∷ inserted before x ys) (x ∷ y ∷ ys)
+    ∙ ap (λ l. if comes_before x y then x ∷ y ∷ ys else y ∷ l) (inserted_is x ys)
 
--- a text is inserted where the first text stands that it comes before
-pub insert_at_place : (x : List ℕ) (ys : List (List ℕ)) → insert ys (position_or_len (comes_before x) ys) x ≡ insert_text x ys
-insert_at_place x [] = refl
-insert_at_place x (y ∷ ys) =
-    elim (comes_before x y) as (λ b. insert (y ∷ ys) (cond (not b) (1 + position_or_len (comes_before x) ys) 0) x ≡ (if b then x ∷ y ∷ ys else y ∷ insert_text x ys)) [
-      | true ↦ refl
-      | false ↦ rw (one_more (position_or_len (comes_before x) ys)) (ap (λ l. y ∷ l) (insert_at_place x ys))
-    ]
+ports_in_order : (gs : List Group) → in_order before (port_names gs) ≡ out_ports gs
+ports_in_order [] = refl
+ports_in_order (Given r (OutPort t) ∷ gs) = inserted_is (name_of r) (in_order before (port_names gs)) ∙ ap (insert_text (name_of r)) (ports_in_order gs)
+ports_in_order (Given r (Wrapper k) ∷ gs) = ports_in_order gs
+ports_in_order (Given r EmptyBatch ∷ gs) = ports_in_order gs
+ports_in_order (Functions ds ∷ gs) = ports_in_order gs
+ports_in_order (Constant r e ∷ gs) = ports_in_order gs
+
+-- the names, sorted
+pub sorted_ports : (gs : List Group) (names sorted : List (List ℕ)) → names ≡ port_names gs → IsSortedBy before sorted → IsStableBy before names sorted → sorted ≡ out_ports gs
+sorted_ports gs names sorted is up stable = sorted_is before is_order names sorted up stable ∙ ap (in_order before) is ∙ ports_in_order gs

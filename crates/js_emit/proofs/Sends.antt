@@ -6,8 +6,8 @@ use Rattle.wire_value.specs.Wire.{Wire}
 use Rattle.runs.specs.Ends.{End, Val, Stuck, then_do}
 use Rattle.elm_canon.specs.Values.{Value, Values}
 use Rattle.elm_canon.specs.Run.{commands, commands_in, commands_of}
-use Rattle.js_tree.specs.Values.{JVal, JNumV, JFields, MoreJField}
-use Rattle.js_tree.specs.Run.{wire_of, Parcels, list_of, readings, field_readings, sends_of}
+use Rattle.js_meaning.specs.Values.{JVal, JNumV, JFields, MoreJField}
+use Rattle.js_meaning.specs.Run.{wire_of, Parcels, list_of, readings, field_readings, sends_of}
 use Rattle.js_emit.proofs.For.{IsOut, For, for_tag, for_send, for_batch, ForAll, for_none, for_more}
 
 -- one is not zero

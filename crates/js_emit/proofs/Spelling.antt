@@ -8,13 +8,34 @@ use Rattle.elm_canon.specs.Tree.{Ref, Pattern, Named, Anything, Expr, Int, Var, 
 use Rattle.elm_canon.specs.Tree as source
 use Rattle.elm_canon.specs.Run.{name_of}
 use Rattle.js_tree.specs.Tree.{Name, Js, JArrow, JCall, Stmts, Return, Lines}
-use Rattle.js_tree.specs.Values.{is_exact}
+use Rattle.wire_value.specs.Exact.{is_exact}
 use Rattle.js_tree.specs.Subset.{is_unit, is_letter, is_name_unit, is_word, is_module, is_name, is_spelled, fields_spelled, are_spelled, lines_spelled}
 use Rattle.js_emit.specs.Emit.{made_in, made_in_all, made_in_fields, js_name, js_parameter, behind_parameter, now, emit, emit_calls, emit_fields, emit_known, emit_defs, emit_groups, comes_before, insert_text, out_ports}
 use Rattle.js_emit.specs.Literals.{HasExactLiterals, AllHaveExactLiterals, FieldsHaveExactLiterals, DefsHaveExactLiterals, GroupsHaveExactLiterals}
 use Rattle.js_emit.specs.Spelled.{can_spell_name, can_spell_parameter, can_spell, can_spell_all, can_spell_fields, can_spell_declared, can_spell_defs, can_spell_known, can_spell_group}
 use Rattle.js_emit.proofs.Names.{both_true}
 use Rattle.js_emit.proofs.Expressions.{returns_now}
+
+-- the units of names
+
+letter_unit : (u : ℕ) → is_letter u ≡ true → is_unit u ≡ true
+letter_unit u h = grind (arith, nat_tests)
+
+name_unit : (u : ℕ) → is_name_unit u ≡ true → is_unit u ≡ true
+name_unit u h = grind (arith, nat_tests)
+
+name_units : (us : List ℕ) → list_all is_name_unit us ≡ true → list_all is_unit us ≡ true
+name_units [] h = refl
+name_units (u ∷ us) h =
+    let r = both_true (is_name_unit u) (list_all is_name_unit us) h in
+    and_from (is_unit u) (list_all is_unit us) (name_unit u r.0) (name_units us r.1)
+
+-- a word
+word_units : (x : List ℕ) → is_word x ≡ true → list_all is_unit x ≡ true
+word_units [] h = absurd (cc)
+word_units (u ∷ us) h =
+    let r = both_true (is_letter u) (list_all is_name_unit us) h in
+    and_from (is_unit u) (list_all is_unit us) (letter_unit u r.0) (name_units us r.1)
 
 -- a name
 pub name_spelled : (r : Ref) → can_spell_name r ≡ true → is_name (js_name r) ≡ true
@@ -75,38 +96,17 @@ mutual
   fields_too : (fs : Fields) (d : ℕ) → can_spell_fields fs ≡ true → FieldsHaveExactLiterals fs → d + made_in_fields fs ≤ 2 ^ 64 → fields_spelled (emit_fields d fs) ≡ true
   fields_too NoField d sp ex le = refl
   fields_too (MoreField k e fs) d sp ex le =
-      let r = both_true (list_all is_unit k) (can_spell e && can_spell_fields fs) sp in
+      let r = both_true (is_word k) (can_spell e && can_spell_fields fs) sp in
       let q = both_true (can_spell e) (can_spell_fields fs) r.1 in
       let se = is_spelled (now (emit d e)) in
       let sf = fields_spelled (emit_fields (d + made_in e) fs) in
-      and_from (list_all is_unit k) (se && sf) r.0 (and_from se sf (spelled e d q.0 ex.0 (omega arith)) (fields_too fs (d + made_in e) q.1 ex.1 (omega arith)))
+      and_from (list_all is_unit k) (se && sf) (word_units k r.0) (and_from se sf (spelled e d q.0 ex.0 (omega arith)) (fields_too fs (d + made_in e) q.1 ex.1 (omega arith)))
 
 -- the expression of a declaration
 declared_spelled : (e : Expr) → can_spell_declared e ≡ true → HasExactLiterals e → is_spelled (now (emit 0 e)) ≡ true
 declared_spelled e sp ex =
     let r = both_true (can_spell e) (nat_lt (made_in e) (2 ^ 64)) sp in
     spelled e 0 r.0 ex (omega (arith, ltb-true (made_in e) (2 ^ 64) r.1))
-
--- the units of names
-
-letter_unit : (u : ℕ) → is_letter u ≡ true → is_unit u ≡ true
-letter_unit u h = grind (arith, nat_tests)
-
-name_unit : (u : ℕ) → is_name_unit u ≡ true → is_unit u ≡ true
-name_unit u h = grind (arith, nat_tests)
-
-name_units : (us : List ℕ) → list_all is_name_unit us ≡ true → list_all is_unit us ≡ true
-name_units [] h = refl
-name_units (u ∷ us) h =
-    let r = both_true (is_name_unit u) (list_all is_name_unit us) h in
-    and_from (is_unit u) (list_all is_unit us) (name_unit u r.0) (name_units us r.1)
-
--- a word
-word_units : (x : List ℕ) → is_word x ≡ true → list_all is_unit x ≡ true
-word_units [] h = absurd (cc)
-word_units (u ∷ us) h =
-    let r = both_true (is_letter u) (list_all is_name_unit us) h in
-    and_from (is_unit u) (list_all is_unit us) (letter_unit u r.0) (name_units us r.1)
 
 -- a name without its module
 name_of_units : (r : Ref) → can_spell_name r ≡ true → list_all is_unit (name_of r) ≡ true

@@ -1,7 +1,8 @@
 -- What operators and fields do to values that stand for each other; and objects, field by field.
-use Rattle.std.proofs.Common.{◌≡◌, ℕ, ℤ, List, Bool, true, false, refl, ap, ◌∙◌, subst}
-use Rattle.std.specs.Prelude.{if◌then◌else◌, ◌||◌}
+use Rattle.std.proofs.Common.{◌≡◌, ℕ, ℤ, List, Bool, true, false, refl, sym, ap, ◌∙◌, subst}
+use Rattle.std.specs.Prelude.{if◌then◌else◌, ◌||◌, codes}
 use Rattle.std.specs.Str.{bytes_eq}
+use Rattle.std.proofs.lemmas.Slice.Eq.{bytes_eq-Decides}
 use Rattle.runs.specs.Ends.{End, Val, Crashed, OutOfFuel, Unsafe, Stuck, then_do, Metered, MVal, MCrashed, MOut, MUnsafe, MStuck, and_then, with_budget}
 use Rattle.runs.specs.Pay.{Follows, gives, unclaimed_unsafe, unclaimed_stuck}
 use Rattle.runs.proofs.Spends.{spends_none, spends_same, follows_after, follows_then}
@@ -10,9 +11,10 @@ use Rattle.elm_canon.specs.Values.{Value, IntV, FieldValues, MoreFieldV, field_o
 use Rattle.elm_canon.specs.Values as source
 use Rattle.elm_canon.specs.Eval.{operate}
 use Rattle.js_tree.specs.Tree.{Js, Fields, MoreField}
-use Rattle.js_tree.specs.Values.{JVal, JNumV, JFields, MoreJField, JEnv, field_in, put_field}
-use Rattle.js_tree.specs.Values as js
-use Rattle.js_tree.specs.Eval.{j_operate, j_eval, j_fields, j_call}
+use Rattle.js_tree.specs.Subset.{is_word}
+use Rattle.js_meaning.specs.Values.{JVal, JNumV, JFields, MoreJField, JEnv, field_in, put_field}
+use Rattle.js_meaning.specs.Values as js
+use Rattle.js_meaning.specs.Eval.{j_operate, j_eval, j_fields, j_call, j_loop}
 use Rattle.js_emit.specs.Emit.{js_operator}
 use Rattle.js_emit.proofs.For.{For, for_int, ForFields, for_no_field, for_field}
 
@@ -42,6 +44,14 @@ then_then OutOfFuel f g = refl
 then_then Unsafe f g = refl
 then_then Stuck f g = refl
 
+-- a word is not the name of an object's prototype
+no_prototype : (k : List ℕ) → is_word k ≡ true → bytes_eq k (codes "__proto__") ≡ false
+no_prototype k word = go (bytes_eq k (codes "__proto__")) refl
+  where
+    go : (t : Bool) → bytes_eq k (codes "__proto__") ≡ t → t ≡ false
+    go true e = let other = ap is_word ((bytes_eq-Decides k (codes "__proto__")).0 e) in absurd (cc)
+    go false e = refl
+
 module _ (outs : List (List ℕ)) where
   -- a number, where it is exact
   exact_too : (n : ℕ) (i : ℤ) (t : Bool) → Follows (For outs) n (if t then Val (IntV i) else Unsafe) (λ _ m. with_budget (if t then Val (JNumV i) else Unsafe) m)
@@ -69,16 +79,17 @@ module _ (outs : List (List ℕ)) where
   same_has k (for_field {k = i} r rs) = ap (λ t. bytes_eq k i || t) (same_has k rs)
 
   -- a field more
-  pub field_put : (n : ℕ) (k : List ℕ) {v : Value} {w : JVal} {vs : FieldValues} {ws : JFields} → For outs v w → ForFields outs vs ws → Follows (ForFields outs) n (with_field k v vs) (λ _ m. with_budget (put_field k w ws) m)
-  field_put n k {v} {w} {vs} {ws} r rs =
-      subst (λ t. Follows (ForFields outs) n (with_field k v vs) (λ _ m. with_budget (if t then Stuck else Val (MoreJField k w ws)) m)) (same_has k rs) (go (source.has_field k vs))
+  pub field_put : (n : ℕ) (k : List ℕ) {v : Value} {w : JVal} {vs : FieldValues} {ws : JFields} → is_word k ≡ true → For outs v w → ForFields outs vs ws → Follows (ForFields outs) n (with_field k v vs) (λ _ m. with_budget (put_field k w ws) m)
+  field_put n k {v} {w} {vs} {ws} word r rs =
+      subst (λ t. Follows (ForFields outs) n (with_field k v vs) (λ _ m. with_budget (if t then Stuck else Val (MoreJField k w ws)) m))
+      (same_has k rs ∙ ap (λ t. t || js.has_field k ws) (sym (no_prototype k word))) (go (source.has_field k vs))
     where
       go : (t : Bool) → Follows (ForFields outs) n (if t then Stuck else Val (MoreFieldV k v vs)) (λ _ m. with_budget (if t then Stuck else Val (MoreJField k w ws)) m)
       go true = unclaimed_stuck
       go false = gives (MoreJField k w ws) (for_field r rs) spends_none
 
   -- an object's first field, and what comes of it and of the others
-  pub field_first : {B C : Type 0} {S : C → B → Type 0} {n : ℕ} {o : End Value} (go : Value → End C) (k : List ℕ) (e : Js) (fs : Fields) (env : JEnv) (then_so : ℕ → JFields → ℕ → Metered B) → Follows (For outs) n o (λ b m. j_eval (j_call b) e env m) → ((v : Value) (w : JVal) → For outs v w → Follows S n (go v) (λ b m. and_then (j_fields (j_call b) fs env m) (λ vs m2. and_then (with_budget (put_field k w vs) m2) (then_so b)))) → Follows S n (then_do o go) (λ b m. and_then (j_fields (j_call b) (MoreField k e fs) env m) (then_so b))
+  pub field_first : {B C : Type 0} {S : C → B → Type 0} {n : ℕ} {o : End Value} (go : Value → End C) (k : List ℕ) (e : Js) (fs : Fields) (env : JEnv) (then_so : ℕ → JFields → ℕ → Metered B) → Follows (For outs) n o (λ b m. j_eval (j_call b) (j_loop b) e env m) → ((v : Value) (w : JVal) → For outs v w → Follows S n (go v) (λ b m. and_then (j_fields (j_call b) (j_loop b) fs env m) (λ vs m2. and_then (with_budget (put_field k w vs) m2) (then_so b)))) → Follows S n (then_do o go) (λ b m. and_then (j_fields (j_call b) (j_loop b) (MoreField k e fs) env m) (then_so b))
   field_first go k e fs env then_so f next =
-      follows_after (spends_same (λ b m. and_and (j_eval (j_call b) e env m) _ (then_so b) ∙ and_same (j_eval (j_call b) e env m) (λ w m1. and_and (j_fields (j_call b) fs env m1) _ (then_so b))))
-      (follows_then go (λ b w m1. and_then (j_fields (j_call b) fs env m1) (λ vs m2. and_then (with_budget (put_field k w vs) m2) (then_so b))) f next)
+      follows_after (spends_same (λ b m. and_and (j_eval (j_call b) (j_loop b) e env m) _ (then_so b) ∙ and_same (j_eval (j_call b) (j_loop b) e env m) (λ w m1. and_and (j_fields (j_call b) (j_loop b) fs env m1) _ (then_so b))))
+      (follows_then go (λ b w m1. and_then (j_fields (j_call b) (j_loop b) fs env m1) (λ vs m2. and_then (with_budget (put_field k w vs) m2) (then_so b))) f next)

@@ -5,7 +5,7 @@ use Rattle.std.specs.Prelude.{ℕ, zero, suc, ◌+◌, pos, List, [], ◌∷◌,
 use Rattle.elm_canon.specs.Tree.{Ref, Pattern, Named, Anything, Operator, Add, Expr, Int, Var, Lambda, Apply, Binary, UnitOf, Pair, Triple, Record, Exprs, NoExpr, MoreExpr, Fields, NoField, MoreField, Defs, NoDef, MoreDef, Payload, IntPayload, UnitPayload, Flags, AnyFlags, IntFlags, Known, Wrapper, EmptyBatch, OutPort, Group, Functions, Constant, Given, Project}
 use Rattle.elm_canon.specs.Tree as source
 use Rattle.elm_canon.specs.Run.{name_of}
-use Rattle.js_tree.specs.Tree.{Name, Top, Local, Made, Plus, EncodeSame, EncodeNull, DecodeAny, DecodeInt, Js, JInt, JText, JVar, JArrow, JCall, JBinary, JObject, JBlock, JHelper, NoJs, Stmts, Const, Return, Lines, NoLine, MoreLine, Program}
+use Rattle.js_tree.specs.Tree.{Name, Top, Local, Made, Plus, EncodeSame, EncodeNull, DecodeAny, DecodeInt, Js, JInt, JText, JVar, JArrow, JCall, JBinary, JObject, JBlock, JHelper, NoJs, Stmts, Return, Lines, NoLine, MoreLine, Program}
 use Rattle.js_tree.specs.Tree as js
 
 -- the name of what a name of the source means
@@ -54,10 +54,9 @@ abbrev pub behind_parameter : ℕ → Pattern → ℕ
 behind_parameter d (Named x) = d
 behind_parameter d Anything = suc d
 
--- the expression that statements in return position are; what is no constant and no return is a block that is called at once
+-- the expression that statements in return position are; what is no return is a block that is called at once
 abbrev pub now : Stmts → Js
 now (Return e) = e
-now (Const x e s) = JCall (JArrow x s) e
 now s = JBlock s
 
 -- an object with a tag
@@ -124,6 +123,12 @@ comes_before (x ∷ xs) (y ∷ ys) = if nat_lt x y then true else (if nat_lt y x
 abbrev pub insert_text : List ℕ → List (List ℕ) → List (List ℕ)
 insert_text x [] = x ∷ []
 insert_text x (y ∷ ys) = if comes_before x y then x ∷ y ∷ ys else y ∷ insert_text x ys
+
+-- the names of the outgoing ports, in the order of their groups
+abbrev pub port_names : List Group → List (List ℕ)
+port_names [] = []
+port_names (Given r (OutPort t) ∷ gs) = name_of r ∷ port_names gs
+port_names (_ ∷ gs) = port_names gs
 
 -- the outgoing ports, in the order of their names' units
 abbrev pub out_ports : List Group → List (List ℕ)

@@ -1,9 +1,10 @@
--- What JavaScript can spell of a program: names that are words, names of fields that are units, and numbers that are in range.
+-- What JavaScript can spell of a program: names and names of fields that are words, and numbers that are in range. (ECMA-262: 12.7 names;
+-- 13.2.5.5, by which a field `__proto__`, which is no word here, is none.)
 use Rattle.std.specs.Prelude.{◌≡◌, ◌^◌, pos, Bool, true, ◌&&◌, nat_lt}
 use Rattle.std.specs.List.{list_all}
 use Rattle.elm_canon.specs.Tree.{Ref, Local, Top, Pattern, Named, Anything, Expr, Int, Var, Lambda, Apply, Binary, UnitOf, Pair, Triple, Record, Exprs, NoExpr, MoreExpr, Fields, NoField, MoreField, Defs, NoDef, MoreDef, Known, Wrapper, EmptyBatch, OutPort, Group, Functions, Constant, Given, Project}
 use Rattle.js_tree.specs.Subset.{is_unit, is_word, is_module}
-use Rattle.js_tree.specs.Values.{is_exact}
+use Rattle.wire_value.specs.Exact.{is_exact}
 use Rattle.js_emit.specs.Emit.{made_in}
 
 -- a local name is a word, any other a word of a module
@@ -33,7 +34,7 @@ abbrev mutual
 
   pub can_spell_fields : Fields → Bool
   can_spell_fields NoField = true
-  can_spell_fields (MoreField k e fs) = list_all is_unit k && (can_spell e && can_spell_fields fs)
+  can_spell_fields (MoreField k e fs) = is_word k && (can_spell e && can_spell_fields fs)
 
 -- the expression of a declaration, which takes fewer than 2^64 made names
 abbrev pub can_spell_declared : Expr → Bool

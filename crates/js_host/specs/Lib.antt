@@ -1,3 +1,4 @@
 pub mod Commands
 pub mod Wires
+pub mod Frames
 pub mod Stages

@@ -5,6 +5,5 @@ pub mod command;
 pub mod program;
 pub mod stage;
 pub mod subscription;
-#[cfg(test)]
-mod tests;
+mod vectors;
 pub mod wire;

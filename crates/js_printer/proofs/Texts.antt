@@ -4,15 +4,11 @@ use Rattle.std.proofs.lemmas.Bool.Decides.{nat_tests}
 use Rattle.std.proofs.lemmas.Fmt.{decimal_digit}
 use Rattle.std.proofs.lemmas.List.{take_more}
 use Rattle.js_tree.specs.Tree.{JInt}
-use Rattle.js_tree.specs.Text.{name_units, units_text, text_text, js_text, fields_text, more_fields_text, outs_fields}
+use Rattle.js_tree.specs.Text.{name_units, text_text, js_text, fields_text, more_fields_text, outs_fields}
 
 pub name_units-append : (us vs : List ℕ) → name_units (us ++ vs) ≡ name_units us ++ name_units vs
 name_units-append [] vs = refl
 name_units-append (u ∷ us) vs = rw (name_units-append us vs, append_assoc) refl
-
-pub units_text-append : (us vs : List ℕ) → units_text (us ++ vs) ≡ units_text us ++ units_text vs
-units_text-append [] vs = refl
-units_text-append (u ∷ us) vs = rw (units_text-append us vs, append_assoc) refl
 
 -- the number 0
 pub zero_text : js_text (JInt (pos 0)) ≡ 48 ∷ []

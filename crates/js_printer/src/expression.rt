@@ -5,8 +5,9 @@ ghost use Rattle.js_tree.specs.Postorder.{operator_view, helper_view};
 ghost use Rattle.js_tree.specs.Text.{bool_text, operator_text, helper_text};
 ghost use Rattle.js_printer.specs.Tasks.{IsStep};
 
-use crate::spelling::{write_int, write_name, write_text};
+use crate::spelling::{write_int, write_name};
 use crate::task::{Task, push_parts};
+use elm_base::quoted::write_text;
 use js_tree::tree::{Helper, Node, Operator};
 use js_tree::trees::Trees;
 use std::alloc::AllocError;

@@ -14,8 +14,6 @@ mod program;
 mod spelling;
 mod statement;
 mod task;
-#[cfg(test)]
-mod tests;
 
 use expression::{leave_items, leave_items_before, write_expression, write_key};
 use js_tree::runtime::{HEAD, TAIL};

@@ -3,8 +3,8 @@
 ghost use Rattle.std.specs.Prelude.{◌≤◌, ℕ, List, length, OnOk};
 ghost use Rattle.js_printer.specs.Tasks.{IsStep};
 
-use crate::spelling::write_text;
 use crate::task::{Task, push_parts};
+use elm_base::quoted::write_text;
 use js_tree::tree::Node;
 use js_tree::trees::Trees;
 use std::alloc::AllocError;

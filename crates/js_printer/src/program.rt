@@ -4,9 +4,10 @@ ghost use Rattle.std.specs.Prelude.{◌≡◌, ◌≤◌, ◌++◌, ℕ, List, l
 ghost use Rattle.js_tree.specs.Text.{fields_text, outs_fields};
 ghost use Rattle.js_printer.specs.Tasks.{IsStep};
 
-use crate::spelling::{write_comma, write_text};
+use crate::spelling::write_comma;
 use crate::statement::write_value;
 use crate::task::{Task, push_parts};
+use elm_base::quoted::write_text;
 use elm_base::units::Units;
 use js_tree::runtime::{HEAD, TAIL};
 use js_tree::tree::Node;

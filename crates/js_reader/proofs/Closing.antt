@@ -2,7 +2,7 @@
 use Rattle.std.proofs.Common.{◌≡◌, ℕ, List, [], ◌∷◌, ◌++◌, true, ◌==◌, if◌then◌else◌, refl, ap, ◌∙◌, arith}
 use Rattle.std.proofs.lemmas.Bool.Decides.{nat_tests}
 use Rattle.js_tree.specs.declared.runtime.TheConstants.{TAIL}
-use Rattle.js_tree.proofs.Automaton.{State, Known, Dead, known, step}
+use Rattle.js_tree.specs.Automaton.{State, Known, Dead, known, step}
 
 same : (c : ℕ) → (c == c) ≡ true
 same c = grind (arith, nat_tests)

@@ -1,7 +1,7 @@
 -- Digits of base 16.
 use Rattle.std.proofs.Common.{◌≡◌, ℕ, zero, suc, ◌*◌, ◌^◌, ◌≤◌, true, nat_le, nat_lt, ◌||◌, arith}
 use Rattle.std.proofs.lemmas.Bool.Decides.{nat_tests}
-use Rattle.js_tree.proofs.NameReader.{greatest}
+use Rattle.js_tree.specs.NameReader.{greatest}
 
 positive : (n : ℕ) → 1 ≤ 16 ^ n
 positive zero = omega arith

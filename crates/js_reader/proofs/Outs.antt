@@ -1,7 +1,7 @@
 -- Outgoing ports, which the reader has in their order and the machine in reverse.
 use Rattle.std.proofs.Common.{◌≡◌, ℕ, List, [], ◌∷◌, ◌++◌, reverse, refl, ap, ◌∙◌}
 use Rattle.std.proofs.lemmas.List.{reverse-append}
-use Rattle.js_tree.proofs.Automaton.{reversed_onto}
+use Rattle.js_tree.specs.Automaton.{reversed_onto}
 
 onto-append : (xs ys zs : List (List ℕ)) → reversed_onto (xs ++ ys) zs ≡ reversed_onto ys (reversed_onto xs zs)
 onto-append [] ys zs = refl

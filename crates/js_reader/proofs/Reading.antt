@@ -7,8 +7,7 @@ use Rattle.js_tree.specs.Text.{JsText}
 use Rattle.js_tree.specs.Subset.{is_program_spelled}
 use Rattle.js_tree.specs.Faults.{Place, place_behind}
 use Rattle.js_tree.specs.Postorder.{Tree, Expression, ItemsOf, MembersOf, StatementsOf, BlockOf, LinesOf, ProgramOf}
-use Rattle.js_tree.proofs.Automaton.{State, Finished, Dead, step, run, start}
-use Rattle.js_tree.proofs.Fronts.{is_live}
+use Rattle.js_tree.specs.Automaton.{State, Finished, Dead, step, run, start, is_live}
 use Rattle.js_tree.proofs.CompleteTree.{read_back}
 use Rattle.js_tree.proofs.Exact.{live_or_dead, run_on, dead_stays, read_is_spelled, fault_inside, fault_at_end}
 use Rattle.js_reader.specs.declared.refusal.Refusal.TheVariants.{At}

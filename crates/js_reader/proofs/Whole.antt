@@ -6,7 +6,7 @@ use Rattle.js_tree.specs.Text.{JsText}
 use Rattle.js_tree.specs.Subset.{in_subset, is_program_bound, is_program_spelled}
 use Rattle.js_tree.specs.Faults.{place_behind}
 use Rattle.js_tree.specs.Postorder.{Tree, ProgramOf}
-use Rattle.js_tree.proofs.Fronts.{is_live}
+use Rattle.js_tree.specs.Automaton.{is_live}
 use Rattle.js_tree.proofs.CompleteTree.{read_back}
 use Rattle.js_tree.proofs.Exact.{fault_at_end, one_program}
 use Rattle.js_scope.specs.Bound.{names_bound}

@@ -1,7 +1,7 @@
 -- Lists that have nothing yet, and the reader at its end.
 use Rattle.std.specs.Prelude.{Bool, true, false}
 use Rattle.js_tree.specs.Postorder.{Items, NoItem, Members, NoMember}
-use Rattle.js_tree.proofs.Automaton.{State, Finished}
+use Rattle.js_tree.specs.Automaton.{State, Finished}
 
 abbrev pub is_no_item : Items → Bool
 is_no_item NoItem = true

@@ -5,8 +5,9 @@ use Rattle.js_tree.specs.Tree.{Program}
 use Rattle.js_tree.specs.Postorder.{Tree, ProgramOf, NoStatement, top, below, expression, items, members, statements, block, lines, build, members_then, name_view, operator_view, helper_view}
 use Rattle.js_tree.specs.Tree.{Local, NoField, NoLine, JVar}
 use Rattle.js_tree.specs.declared.tree.Name as name
-use Rattle.js_tree.proofs.Automaton as machine
-use Rattle.js_tree.proofs.Automaton.{Place, Block, ObjectAt, TextAt, NameAt, State, Front}
+use Rattle.js_tree.specs.declared.tree.Node as node
+use Rattle.js_tree.specs.Automaton as machine
+use Rattle.js_tree.specs.Automaton.{Place, Block, ObjectAt, TextAt, NameAt, State, Front}
 use Rattle.js_reader.specs.declared.frames.Frame.{Frame}
 use Rattle.js_reader.specs.declared.frames.Frame as frame
 use Rattle.js_reader.specs.declared.mode.Object as object
@@ -72,6 +73,21 @@ naming_of naming.Naming.Const fs m ts = machine.ConstAt (statements (top ts)) (b
 naming_of naming.Naming.Let fs m ts = machine.LetAt (statements (top ts)) (block_of fs m (below ts))
 naming_of naming.Naming.Assign fs m ts = machine.AssignAt (statements (top ts)) (block_of fs m (below ts))
 naming_of naming.Naming.Line fs m ts = machine.LineAt (lines (top ts))
+
+-- the frame of what is declared or assigned, and the node of the statement that does so
+abbrev pub naming_frame : naming.Naming → name.Name → Frame
+naming_frame naming.Naming.Const x = frame.Frame.Const x
+naming_frame naming.Naming.Let x = frame.Frame.Let x
+naming_frame naming.Naming.Assign x = frame.Frame.Assign x
+naming_frame naming.Naming.Variable x = frame.Frame.Line x
+naming_frame naming.Naming.Line x = frame.Frame.Line x
+
+abbrev pub naming_node : naming.Naming → name.Name → node.Node
+naming_node naming.Naming.Const x = node.Node.Const x
+naming_node naming.Naming.Let x = node.Node.Let x
+naming_node naming.Naming.Assign x = node.Node.Assign x
+naming_node naming.Naming.Variable x = node.Node.Const x
+naming_node naming.Naming.Line x = node.Node.Const x
 
 -- the program that a tree is, or one that has no text
 abbrev pub program_at : Tree → Program

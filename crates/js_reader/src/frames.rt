@@ -8,7 +8,7 @@ use std::alloc::{AllocError, Global};
 use std::marker::Model;
 
 /// What an expression or a block stands in. The trees that were read before it lie on those of what is round it.
-#[derive(Debug, Drop)]
+#[derive(Drop)]
 pub enum Frame {
     /// The argument of the call of the last tree.
     Argument,
@@ -47,7 +47,7 @@ pub enum Frame {
 }
 
 /// A stack of frames. A contract sees it as the list of the frames, the innermost one first.
-#[derive(Debug, Drop)]
+#[derive(Drop)]
 pub struct Frames {
     stack: Vec<Frame>,
 }

@@ -10,8 +10,6 @@ mod mode;
 mod name;
 mod reader;
 mod refusal;
-#[cfg(test)]
-mod tests;
 mod text;
 mod word;
 

@@ -1,7 +1,7 @@
 //! What the reader is at.
 
 /// What an object is.
-#[derive(Clone, Copy, Debug)]
+#[derive(Clone, Copy)]
 pub enum Object {
     /// An expression.
     Value,
@@ -10,7 +10,7 @@ pub enum Object {
 }
 
 /// What a text is.
-#[derive(Clone, Copy, Debug)]
+#[derive(Clone, Copy)]
 pub enum Text {
     /// An expression.
     Literal,
@@ -25,7 +25,7 @@ pub enum Text {
 }
 
 /// What a name is.
-#[derive(Clone, Copy, Debug)]
+#[derive(Clone, Copy)]
 pub enum Naming {
     /// An expression.
     Variable,
@@ -38,7 +38,7 @@ pub enum Naming {
 }
 
 /// What comes behind bytes that are known.
-#[derive(Clone, Copy, Debug)]
+#[derive(Clone, Copy)]
 pub enum After {
     Want,
     Have,
@@ -53,7 +53,7 @@ pub enum After {
 }
 
 /// What the reader is at.
-#[derive(Clone, Copy, Debug)]
+#[derive(Clone, Copy)]
 pub enum Mode {
     /// Before an expression.
     Want,

@@ -5,14 +5,14 @@ ghost use Rattle.js_reader.specs.NameView.{begun_at, begun_of, found_of};
 ghost use Rattle.js_reader.specs.declared.name.Phase.TheVariants.{Word, Dollar, Digits};
 ghost use Rattle.js_tree.specs.Subset as subset;
 ghost use Rattle.js_tree.specs.Text as spelled;
-ghost use Rattle.js_tree.proofs.NameReader as reading;
+ghost use Rattle.js_tree.specs.NameReader as reading;
 
 use elm_base::units::Units;
 use js_tree::tree::Name;
 use std::alloc::{AllocError, Global};
 
 /// How far a name has been read.
-#[derive(Clone, Copy, Debug)]
+#[derive(Clone, Copy)]
 pub enum Phase {
     /// `$`
     OneDollar,
@@ -31,7 +31,7 @@ pub enum Phase {
 }
 
 /// What has been read of a name.
-#[derive(Debug, Drop)]
+#[derive(Drop)]
 pub struct NameReader {
     alloc: Global,
     phase: Phase,

@@ -1,18 +1,18 @@
 //! A text, read byte by byte.
 
 ghost use Rattle.std.specs.Prelude.{◌≡◌, List, [], ◌∷◌, ◌++◌, OnOk, IfOk, codes, if◌then◌else◌, ◌==◌, true, false, not, pos, nat_lt, ◌||◌, ◌*◌, ◌+◌, ◌-◌, ◌^◌, ◌<◌};
-ghost use Rattle.js_reader.specs.View.{block_of, front_of, after_in, naming_of, object_of, outs_in, parameter_of, place_of, program_at, state_of, text_of, trees_in};
+ghost use Rattle.js_reader.specs.View.{block_of, front_of, after_in, naming_frame, naming_node, naming_of, object_of, outs_in, parameter_of, place_of, program_at, state_of, text_of, trees_in};
 ghost use Rattle.js_tree.specs.declared.runtime.TheConstants.{TAIL};
 ghost use Rattle.js_reader.specs.declared.mode.After.TheVariants.{Finished};
 ghost use Rattle.js_reader.specs.NameView.{begun_of, found_of};
-ghost use Rattle.js_tree.proofs.Fronts.{is_live};
+ghost use Rattle.js_tree.specs.Automaton.{is_live};
 ghost use Rattle.js_reader.specs.Words.{begun_word, found_word, word_view};
 ghost use Rattle.js_reader.specs.Empty.{is_finished, is_no_item, is_no_member};
-ghost use Rattle.js_tree.proofs.NameReader.{begin_name, greatest, is_digit};
+ghost use Rattle.js_tree.specs.NameReader.{begin_name, greatest, is_digit};
 ghost use Rattle.wire_value.specs.Exact as exact;
 ghost use Rattle.js_tree.specs.Postorder.{apply, below, block, expression, items, lines, members, members_then, name_view, operator_view, helper_view, statements, top, Tree};
 ghost use Rattle.js_tree.specs.Tree.{JBlock, JVar, NoField};
-ghost use Rattle.js_tree.proofs.Automaton as machine;
+ghost use Rattle.js_tree.specs.Automaton as machine;
 
 use crate::frames::{Frame, Frames};
 use crate::mode::{After, Mode, Naming, Object, Text};
@@ -80,17 +80,17 @@ impl Reader {
         ensures { OnOk result (state_of self.new ≡ machine.close (place_of (frame ∷ self.old.frames) self.old.entry (below (trees_in self.old))) (expression (top (trees_in self.old))) byte) }
     {
         match frame {
-            Frame::Argument => self.close_bracket(byte, Node::Call),
+            Frame::Argument => self.close_argument(byte),
             Frame::First => self.operator(byte),
-            Frame::Right(operator) => self.close_bracket(byte, Node::Binary(operator)),
+            Frame::Right(operator) => self.close_right(byte, operator),
             Frame::Then => self.colon(byte),
-            Frame::Else => self.close_bracket(byte, Node::Conditional),
+            Frame::Else => self.close_else(byte),
             Frame::Field(name) => self.close_field(byte, name),
             Frame::List => self.close_item(byte),
             Frame::Given(helper) => self.close_given(byte, helper),
-            Frame::Const(name) => self.close_statement(byte, Node::Const(name)),
-            Frame::Let(name) => self.close_statement(byte, Node::Let(name)),
-            Frame::Assign(name) => self.close_statement(byte, Node::Assign(name)),
+            Frame::Const(name) => self.close_statement(byte, Naming::Const, name),
+            Frame::Let(name) => self.close_statement(byte, Naming::Let, name),
+            Frame::Assign(name) => self.close_statement(byte, Naming::Assign, name),
             Frame::Return => self.close_return(byte),
             Frame::Test => self.close_test(byte),
             Frame::Line(name) => self.close_line(byte, name),
@@ -219,16 +219,25 @@ impl Reader {
         Ok(())
     }
 
-    /// Behind the expression of a statement that others follow.
-    fn close_statement(&mut self, byte: u8, node: Node) -> Result<(), AllocError>
-        ensures { OnOk result (state_of self.new ≡ (if byte == 59 then machine.WantStatement (statements (top (apply node (trees_in self.old)))) (block_of self.old.frames self.old.entry (below (apply node (trees_in self.old)))) else machine.Dead)) }
+    /// After the expression of a statement that others follow, which declares or assigns that name.
+    fn close_statement(&mut self, byte: u8, naming: Naming, name: Name) -> Result<(), AllocError>
+        ensures { OnOk result (state_of self.new
+            ≡ (if byte == 59 then machine.WantStatement
+            (statements (top (apply (naming_node naming name) (trees_in self.old))))
+            (block_of self.old.frames self.old.entry
+            (below (apply (naming_node naming name) (trees_in self.old)))) else machine.Dead)) }
     {
-        if byte == b';' {
-            self.trees.push(node)?;
-            self.mode = Mode::Statement;
-        } else {
+        if byte != b';' {
             self.mode = Mode::Dead;
+            return Ok(());
         }
+        let node = match naming {
+            Naming::Let => Node::Let(name),
+            Naming::Assign => Node::Assign(name),
+            Naming::Variable | Naming::Const | Naming::Line => Node::Const(name),
+        };
+        self.trees.push(node)?;
+        self.mode = Mode::Statement;
         Ok(())
     }
 
@@ -324,16 +333,57 @@ impl Reader {
         self.mode = Mode::Known(b",\"outs\":{", After::Out);
     }
 
-    /// What ends with a bracket that `byte` is.
-    fn close_bracket(&mut self, byte: u8, node: Node) -> Result<(), AllocError>
-        ensures { OnOk result (state_of self.new ≡ machine.on_bracket byte (machine.Have (expression (top (apply node (trees_in self.old)))) (place_of self.old.frames self.old.entry (below (apply node (trees_in self.old)))))) }
+    /// After the argument of a call.
+    fn close_argument(&mut self, byte: u8) -> Result<(), AllocError>
+        ensures { OnOk result (state_of self.new
+            ≡ machine.close (machine.ArgumentOf (expression (top (below (trees_in self.old))))
+            (place_of self.old.frames self.old.entry (below (below (trees_in self.old)))))
+            (expression (top (trees_in self.old))) byte) }
     {
         if byte == b')' {
-            self.trees.push(node)?;
-            self.mode = Mode::Have;
-        } else {
-            self.mode = Mode::Dead;
+            return self.have_tree(Node::Call);
         }
+        self.mode = Mode::Dead;
+        Ok(())
+    }
+
+    /// After the right one of an operator.
+    fn close_right(&mut self, byte: u8, operator: Operator) -> Result<(), AllocError>
+        ensures { OnOk result (state_of self.new
+            ≡ machine.close (machine.RightOf (operator_view operator) (expression (top (below (trees_in self.old))))
+            (place_of self.old.frames self.old.entry (below (below (trees_in self.old)))))
+            (expression (top (trees_in self.old))) byte) }
+    {
+        if byte == b')' {
+            return self.have_tree(Node::Binary(operator));
+        }
+        self.mode = Mode::Dead;
+        Ok(())
+    }
+
+    /// After the expression after a colon.
+    fn close_else(&mut self, byte: u8) -> Result<(), AllocError>
+        ensures { OnOk result (state_of self.new
+            ≡ machine.close (machine.ElseOf (expression (top (below (below (trees_in self.old)))))
+            (expression (top (below (trees_in self.old))))
+            (place_of self.old.frames self.old.entry (below (below (below (trees_in self.old))))))
+            (expression (top (trees_in self.old))) byte) }
+    {
+        if byte == b')' {
+            return self.have_tree(Node::Conditional);
+        }
+        self.mode = Mode::Dead;
+        Ok(())
+    }
+
+    /// After an expression, of which this is the last node.
+    fn have_tree(&mut self, node: Node) -> Result<(), AllocError>
+        ensures { OnOk result (state_of self.new
+            ≡ machine.Have (expression (top (apply node (trees_in self.old))))
+            (place_of self.old.frames self.old.entry (below (apply node (trees_in self.old))))) }
+    {
+        self.trees.push(node)?;
+        self.mode = Mode::Have;
         Ok(())
     }
 
@@ -625,23 +675,32 @@ impl Reader {
     {
         match naming {
             Naming::Variable => self.behind_variable(name, byte),
-            Naming::Const => self.named(byte, Frame::Const(name)),
-            Naming::Let => self.named(byte, Frame::Let(name)),
-            Naming::Assign => self.named(byte, Frame::Assign(name)),
-            Naming::Line => self.named(byte, Frame::Line(name)),
+            Naming::Const => self.named(name, byte, Naming::Const),
+            Naming::Let => self.named(name, byte, Naming::Let),
+            Naming::Assign => self.named(name, byte, Naming::Assign),
+            Naming::Line => self.named(name, byte, Naming::Line),
         }
     }
 
-    /// Behind the name of a declaration or an assignment.
-    fn named(&mut self, byte: u8, frame: Frame) -> Result<(), AllocError>
-        ensures { OnOk result (state_of self.new ≡ (if byte == 61 then machine.Want (place_of (frame ∷ self.old.frames) self.old.entry (trees_in self.old)) else machine.Dead)) }
+    /// After the name of a declaration or an assignment.
+    fn named(&mut self, name: Name, byte: u8, naming: Naming) -> Result<(), AllocError>
+        ensures { OnOk result (state_of self.new
+            ≡ (if byte == 61 then machine.Want
+            (place_of (naming_frame naming name ∷ self.old.frames) self.old.entry (trees_in self.old))
+            else machine.Dead)) }
     {
-        if byte == b'=' {
-            self.frames.push(frame)?;
-            self.mode = Mode::Want;
-        } else {
+        if byte != b'=' {
             self.mode = Mode::Dead;
+            return Ok(());
         }
+        let frame = match naming {
+            Naming::Const => Frame::Const(name),
+            Naming::Let => Frame::Let(name),
+            Naming::Assign => Frame::Assign(name),
+            Naming::Variable | Naming::Line => Frame::Line(name),
+        };
+        self.frames.push(frame)?;
+        self.mode = Mode::Want;
         Ok(())
     }
 
@@ -879,37 +938,65 @@ impl Reader {
         Ok(())
     }
 
-    /// Behind a block.
+    /// After a block.
     fn close_block(&mut self) -> Result<(), AllocError>
         ensures { OnOk result (state_of self.new ≡ machine.close_block (block (top (trees_in self.old))) (block_of self.old.frames self.old.entry (below (trees_in self.old)))) }
     {
         let Some(frame) = self.frames.pop() else {
             return self.called();
         };
+        self.close_block_in(frame)
+    }
+
+    /// After a block in this frame, which is none of the others any more.
+    fn close_block_in(&mut self, frame: Frame) -> Result<(), AllocError>
+        ensures { OnOk result (state_of self.new
+            ≡ machine.close_block (block (top (trees_in self.old)))
+            (block_of (frame ∷ self.old.frames) self.old.entry (below (trees_in self.old)))) }
+    {
         match frame {
-            Frame::Body(name) => {
-                self.trees.push(Node::Arrow(name))?;
-                self.mode = Mode::Known(b")", After::Have);
-                Ok(())
-            }
-            Frame::ThenBlock => {
-                self.frames.push(Frame::ElseBlock)?;
-                self.trees.push(Node::NoStatement)?;
-                self.mode = Mode::Known(b"else{", After::Statement);
-                Ok(())
-            }
-            Frame::ElseBlock => {
-                self.trees.push(Node::If)?;
-                self.mode = Mode::Ended;
-                Ok(())
-            }
-            Frame::Loop => {
-                self.trees.push(Node::While)?;
-                self.mode = Mode::Ended;
-                Ok(())
-            }
+            Frame::Body(name) => self.close_body(name),
+            Frame::ThenBlock => self.close_then(),
+            Frame::ElseBlock => self.close_branches(Node::If),
+            Frame::Loop => self.close_branches(Node::While),
             _ => self.called(),
         }
+    }
+
+    /// After the block of a function of this parameter.
+    fn close_body(&mut self, name: Name) -> Result<(), AllocError>
+        ensures { OnOk result (state_of self.new
+            ≡ machine.close_block (block (top (trees_in self.old)))
+            (machine.BodyOf (name_view name)
+            (place_of self.old.frames self.old.entry (below (trees_in self.old))))) }
+    {
+        self.trees.push(Node::Arrow(name))?;
+        self.mode = Mode::Known(b")", After::Have);
+        Ok(())
+    }
+
+    /// After the first block of an `if`.
+    fn close_then(&mut self) -> Result<(), AllocError>
+        ensures { OnOk result (state_of self.new
+            ≡ machine.close_block (block (top (trees_in self.old)))
+            (block_of (Frame.ThenBlock ∷ self.old.frames) self.old.entry (below (trees_in self.old)))) }
+    {
+        self.frames.push(Frame::ElseBlock)?;
+        self.trees.push(Node::NoStatement)?;
+        self.mode = Mode::Known(b"else{", After::Statement);
+        Ok(())
+    }
+
+    /// After the last block of a statement that ends with one.
+    fn close_branches(&mut self, node: Node) -> Result<(), AllocError>
+        ensures { OnOk result (state_of self.new
+            ≡ machine.Ended (statements (top (below (apply node (trees_in self.old)))))
+            (block (top (apply node (trees_in self.old))))
+            (block_of self.old.frames self.old.entry (below (below (apply node (trees_in self.old)))))) }
+    {
+        self.trees.push(node)?;
+        self.mode = Mode::Ended;
+        Ok(())
     }
 
     /// Behind the block of a function that is called at once.
@@ -997,23 +1084,17 @@ impl Reader {
     fn out_done(&mut self, byte: u8) -> Result<(), AllocError>
         ensures { OnOk result (state_of self.new ≡ machine.have_out (front_of self.old.entry (below (trees_in self.old))) (members_then (members (top (trees_in self.old))) NoField) self.old.out (outs_in self.old) byte) }
     {
-        match byte {
-            b',' => {
-                let out = mem::replace(&mut self.out, Units::from_vec(Vec::new(self.alloc)));
-                self.outs.push(out)?;
-                self.mode = Mode::Out;
-                Ok(())
-            }
-            b'}' => {
-                let out = mem::replace(&mut self.out, Units::from_vec(Vec::new(self.alloc)));
-                self.outs.push(out)?;
-                self.end_outs()
-            }
-            _ => {
-                self.mode = Mode::Dead;
-                Ok(())
-            }
+        if byte != b',' && byte != b'}' {
+            self.mode = Mode::Dead;
+            return Ok(());
         }
+        let out = mem::replace(&mut self.out, Units::from_vec(Vec::new(self.alloc)));
+        self.outs.push(out)?;
+        if byte == b',' {
+            self.mode = Mode::Out;
+            return Ok(());
+        }
+        self.end_outs()
     }
 
     /// Behind the outgoing ports.

@@ -15,8 +15,6 @@ mod index;
 mod parts;
 mod scopes;
 mod tasks;
-#[cfg(test)]
-mod tests;
 mod walk;
 
 /// Whether each name of the program that the last tree is, is bound where it is used, and no name that is assigned occurs in a function nested in

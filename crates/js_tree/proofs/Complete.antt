@@ -7,9 +7,9 @@ use Rattle.js_tree.specs.Tree.{Name, Top, Local, Made, JInt}
 use Rattle.js_tree.specs.Text.{int_text, name_text, name_unit, name_units, unit_text, units_text, hex_digit, hex4, is_word_char}
 use Rattle.wire_value.specs.Exact.{is_exact}
 use Rattle.js_tree.specs.Subset.{is_upper, is_letter, is_unit, is_name_unit, is_word, is_module, is_name}
-use Rattle.js_tree.proofs.NameReader.{Owner, Own, Of, Begun, OneDollar, TwoDollars, Numbered, NameWord, Dollar, Digits, NoName, begin_name, name_step, name_of, Found, Not, Name_is, is_run, is_digit, is_hex_digit, hex_value, greatest, begins_upper, join}
+use Rattle.js_tree.specs.NameReader.{Owner, Own, Of, Begun, OneDollar, TwoDollars, Numbered, NameWord, Dollar, Digits, NoName, begin_name, name_step, name_of, Found, Not, Name_is, is_run, is_digit, is_hex_digit, hex_value, greatest, begins_upper, join}
 use Rattle.js_tree.proofs.NameFronts.{and_true, same, as_it_is, letter_in_word, upper_in_word, past_word}
-use Rattle.js_tree.proofs.Automaton.{Place, TextAt, NameAt, State, Want, Have, InName, InInt, Minus_seen, InNegative, InText, InDigits, name_at, in_int, want, have, minus, is_plain, next_digit, behind_text, behind_name, step, run}
+use Rattle.js_tree.specs.Automaton.{Place, TextAt, NameAt, State, Want, Have, InName, InInt, Minus_seen, InNegative, InText, InDigits, name_at, in_int, want, have, minus, is_plain, next_digit, behind_text, behind_name, step, run}
 
 -- the text begins with a character that ends a word
 abbrev pub stops : List ℕ → Bool
@@ -163,7 +163,7 @@ pub read_text : (vs : List ℕ) (a : TextAt) (rest : List ℕ) → list_all is_u
 read_text vs a rest h = read_units vs [] a rest h
 
 -- names: digits of base 16, a unit, the units of a word
-name_digit : (o : Owner) (us : List ℕ) (n v d : ℕ) → d < 16 → name_step (Digits o us n v) (hex_digit d) ≡ Rattle.js_tree.proofs.NameReader.next_digit o us n (v * 16 + d)
+name_digit : (o : Owner) (us : List ℕ) (n v d : ℕ) → d < 16 → name_step (Digits o us n v) (hex_digit d) ≡ Rattle.js_tree.specs.NameReader.next_digit o us n (v * 16 + d)
 name_digit o us n v d h = rw (hex_digit_is_one d h, value_of_digit d h) refl
 
 digit_in_run : (d : ℕ) → d < 16 → is_run (hex_digit d) ≡ true
@@ -183,7 +183,7 @@ read_name_hex o us a u rest h e =
     let s1 : step (InName (Digits o us 3 0) a) (hex_digit d1) ≡ InName (Digits o us 2 v1) a = name_goes_on (Digits o us 3 0) (Digits o us 2 v1) a (hex_digit d1) (digit_in_run d1 (omega arith)) (name_digit o us 3 0 d1 (omega arith) ∙ rw c1 refl) in
     let s2 : step (InName (Digits o us 2 v1) a) (hex_digit d2) ≡ InName (Digits o us 1 v2) a = name_goes_on (Digits o us 2 v1) (Digits o us 1 v2) a (hex_digit d2) (digit_in_run d2 (omega arith)) (name_digit o us 2 v1 d2 (omega arith) ∙ rw c2 refl) in
     let s3 : step (InName (Digits o us 1 v2) a) (hex_digit d3) ≡ InName (Digits o us 0 v3) a = name_goes_on (Digits o us 1 v2) (Digits o us 0 v3) a (hex_digit d3) (digit_in_run d3 (omega arith)) (name_digit o us 1 v2 d3 (omega arith) ∙ rw c3 refl) in
-    let s4 : step (InName (Digits o us 0 v3) a) (hex_digit d4) ≡ InName (NameWord o (us ++ u ∷ [])) a = name_goes_on (Digits o us 0 v3) (NameWord o (us ++ u ∷ [])) a (hex_digit d4) (digit_in_run d4 (omega arith)) (name_digit o us 0 v3 d4 (omega arith) ∙ (ap (λ (v : ℕ). Rattle.js_tree.proofs.NameReader.next_digit o us 0 v) (four_digits u h) ∙ rw e refl)) in
+    let s4 : step (InName (Digits o us 0 v3) a) (hex_digit d4) ≡ InName (NameWord o (us ++ u ∷ [])) a = name_goes_on (Digits o us 0 v3) (NameWord o (us ++ u ∷ [])) a (hex_digit d4) (digit_in_run d4 (omega arith)) (name_digit o us 0 v3 d4 (omega arith) ∙ (ap (λ (v : ℕ). Rattle.js_tree.specs.NameReader.next_digit o us 0 v) (four_digits u h) ∙ rw e refl)) in
     lead (hex_digit d2 ∷ hex_digit d3 ∷ hex_digit d4 ∷ rest) s1 ∙ (lead (hex_digit d3 ∷ hex_digit d4 ∷ rest) s2 ∙ (lead (hex_digit d4 ∷ rest) s3 ∙ lead rest s4))
   where
     first : (u : ℕ) → u < 65536 → nat_le 128 u ≡ true → nat_le 128 (greatest 3 (0 * 16 + u / 4096 % 16)) ≡ true

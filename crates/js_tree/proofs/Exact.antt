@@ -4,8 +4,8 @@ use Rattle.js_tree.specs.Tree.{Program}
 use Rattle.js_tree.specs.Text.{JsText}
 use Rattle.js_tree.specs.Faults.{Begins, IsFaultAt, Place, place_behind}
 use Rattle.js_tree.specs.Subset.{is_program_spelled}
-use Rattle.js_tree.proofs.Automaton.{State, Finished, Dead, step, run, start}
-use Rattle.js_tree.proofs.Fronts.{IsFront, is_live, state_fits}
+use Rattle.js_tree.specs.Automaton.{State, Finished, Dead, step, run, start, is_live}
+use Rattle.js_tree.proofs.Fronts.{IsFront, state_fits}
 use Rattle.js_tree.proofs.Steps.{step_front}
 use Rattle.js_tree.proofs.StepFits.{step_fits}
 use Rattle.js_tree.proofs.Viable.{viable}

@@ -6,8 +6,9 @@ use Rattle.js_tree.specs.Tree.{Js, Fields}
 use Rattle.js_tree.specs.Text.{js_text, fields_text, stmts_text, name_text, text_text, units_text, operator_text, helper_text, JsText}
 use Rattle.wire_value.specs.Exact.{is_exact}
 use Rattle.js_tree.specs.Subset.{is_unit, is_name, is_spelled, fields_spelled, are_spelled, is_program_spelled}
-use Rattle.js_tree.proofs.NameReader.{is_begun, begun_text, begun_fits, digits_text, greatest}
-use Rattle.js_tree.proofs.Automaton.{Items, NoItem, Item, Members, NoMember, Member, Before, NoStatement, ConstThen, LetThen, AssignThen, LinesBefore, NoLineYet, LineThen, Front, Place, ArgumentOf, FirstIn, RightOf, ThenOf, ElseOf, FieldIn, ListIn, GivenTo, ConstIn, LetIn, AssignIn, ReturnIn, TestIn, LineIn, MainIn, FlagsIn, PortIn, Block, BodyOf, CalledIn, ThenIn, ElseIn, LoopIn, ObjectAt, Value, Ports, TextAt, Literal, Key, PropertyOf, ModuleIn, OutIn, NameAt, Variable, ConstAt, LetAt, AssignAt, LineAt, State, Want, Have, InName, InInt, Minus_seen, InNegative, InText, InEscape, InDigits, InWord, WantName, WantField, WantStatement, InKeyword, Ended, Equals, WantLine, WantLineName, WantOut, HaveOut, Known, Finished, Dead, minus, words, word_text, begins_with, begin_statement_words}
+use Rattle.js_tree.specs.NameReader.{is_begun, greatest}
+use Rattle.js_tree.proofs.NameTexts.{begun_text, begun_fits, digits_text}
+use Rattle.js_tree.specs.Automaton.{Items, NoItem, Item, Members, NoMember, Member, Before, NoStatement, ConstThen, LetThen, AssignThen, LinesBefore, NoLineYet, LineThen, Front, Place, ArgumentOf, FirstIn, RightOf, ThenOf, ElseOf, FieldIn, ListIn, GivenTo, ConstIn, LetIn, AssignIn, ReturnIn, TestIn, LineIn, MainIn, FlagsIn, PortIn, Block, BodyOf, CalledIn, ThenIn, ElseIn, LoopIn, ObjectAt, Value, Ports, TextAt, Literal, Key, PropertyOf, ModuleIn, OutIn, NameAt, Variable, ConstAt, LetAt, AssignAt, LineAt, State, Want, Have, InName, InInt, Minus_seen, InNegative, InText, InEscape, InDigits, InWord, WantName, WantField, WantStatement, InKeyword, Ended, Equals, WantLine, WantLineName, WantOut, HaveOut, Known, Finished, Dead, minus, words, word_text, begins_with, begin_statement_words, is_live}
 
 -- each part is ended by its comma
 abbrev pub items_text : Items → List ℕ
@@ -196,10 +197,6 @@ name_at_fits (LineAt before) = lines_fit before
 -- so many digits of base 16 of four are to come behind the next, and a unit can come of them that does not stand for itself
 abbrev pub escape_fits : ℕ → ℕ → Bool
 escape_fits n a = nat_le n 3 && (nat_lt a (16 ^ (3 - n)) && (nat_lt (a * 16 ^ suc n) 32 || nat_lt 126 (greatest (suc n) a)))
-
-abbrev pub is_live : State → Bool
-is_live Dead = false
-is_live _ = true
 
 abbrev pub state_fits : State → Bool
 state_fits (Want k) = place_fits k

@@ -1,6 +1,5 @@
-pub mod NameReader
+pub mod NameTexts
 pub mod NameFronts
-pub mod Automaton
 pub mod Fronts
 pub mod Steps
 pub mod StepFits

@@ -6,7 +6,8 @@ use Rattle.std.specs.List.{list_all}
 use Rattle.js_tree.specs.Tree.{Name, Top, Local, Made}
 use Rattle.js_tree.specs.Text.{hex_digit, hex4, is_word_char, name_unit, name_units, name_text}
 use Rattle.js_tree.specs.Subset.{is_upper, is_letter, is_name_unit, is_word, is_module, is_name}
-use Rattle.js_tree.proofs.NameReader.{Owner, Own, Of, Begun, OneDollar, TwoDollars, Numbered, NameWord, Dollar, Digits, NoName, is_digit, is_hex_digit, hex_value, greatest, begins_upper, join, begin_name, numbered, next_word, next_digit, name_step, owner_text, digits_text, begun_text, owner_fits, digits_fit, begun_fits, Name_is, name_of}
+use Rattle.js_tree.specs.NameReader.{Owner, Own, Of, Begun, OneDollar, TwoDollars, Numbered, NameWord, Dollar, Digits, NoName, is_digit, is_hex_digit, hex_value, greatest, begins_upper, join, begin_name, numbered, next_word, next_digit, name_step, Name_is, name_of}
+use Rattle.js_tree.proofs.NameTexts.{owner_text, digits_text, begun_text, owner_fits, digits_fit, begun_fits}
 
 -- a choice, by its cases
 pub ifs : {A : Type 0} (P : A → Type 0) (b : Bool) {x y : A} → (b ≡ true → P x) → (b ≡ false → P y) → P (if b then x else y)

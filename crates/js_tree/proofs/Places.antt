@@ -1,8 +1,7 @@
 -- Bytes stop to be a text at exactly one place.
 use Rattle.std.proofs.Common.{◌≡◌, ℕ, List, [], ◌∷◌, ◌++◌, true, refl, ap, sym, ◌∙◌, subst, append_assoc, append-nil, ◌⊎◌, inl, inr}
 use Rattle.js_tree.specs.Faults.{Begins, Place, place_behind, IsFaultAt, Stops}
-use Rattle.js_tree.proofs.Automaton.{Dead, step, run, start}
-use Rattle.js_tree.proofs.Fronts.{is_live}
+use Rattle.js_tree.specs.Automaton.{Dead, step, run, start, is_live}
 use Rattle.js_tree.proofs.Plugs.{shorter}
 use Rattle.js_tree.proofs.Exact.{run_on, live_or_dead, fault_inside, fault_at_end}
 

@@ -7,7 +7,7 @@ use Rattle.js_tree.specs.Text.{js_text, stmts_text, JsText}
 use Rattle.js_tree.specs.Subset.{is_unit, is_name, is_spelled, are_spelled, fields_spelled, lines_spelled, is_program_spelled}
 use Rattle.js_tree.specs.Faults.{Begins}
 use Rattle.js_tree.proofs.NameFronts.{and_true}
-use Rattle.js_tree.proofs.Automaton.{Before, LinesBefore, LineThen, items_then, members_then, statements_then, lines_then, Front, Place, ArgumentOf, FirstIn, RightOf, ThenOf, ElseOf, FieldIn, ListIn, GivenTo, ConstIn, LetIn, AssignIn, ReturnIn, TestIn, LineIn, MainIn, FlagsIn, PortIn, Block, BodyOf, CalledIn, ThenIn, ElseIn, LoopIn, program_of}
+use Rattle.js_tree.specs.Automaton.{Before, LinesBefore, LineThen, items_then, members_then, statements_then, lines_then, Front, Place, ArgumentOf, FirstIn, RightOf, ThenOf, ElseOf, FieldIn, ListIn, GivenTo, ConstIn, LetIn, AssignIn, ReturnIn, TestIn, LineIn, MainIn, FlagsIn, PortIn, Block, BodyOf, CalledIn, ThenIn, ElseIn, LoopIn, program_of}
 use Rattle.js_tree.proofs.Fronts.{before_text, place_text, block_text, items_fit, members_fit, before_fits, lines_fit, front_fits, place_fits, block_fits}
 use Rattle.js_tree.proofs.Steps.{items_end, members_end, statements_whole, whole_text}
 use Rattle.js_tree.proofs.StepFits.{items_spelled, members_spelled, statements_spelled, all_lines_spelled, two, three, thirds}

@@ -9,10 +9,11 @@ use Rattle.js_tree.specs.Text.{name_text, name_units, text_text, units_text}
 use Rattle.wire_value.specs.Exact.{is_exact}
 use Rattle.js_tree.specs.Faults.{Begins}
 use Rattle.js_tree.specs.Subset.{is_unit, is_word, is_module, is_name, is_spelled, are_spelled, fields_spelled}
-use Rattle.js_tree.proofs.NameReader.{Owner, Own, Of, Begun, OneDollar, TwoDollars, Numbered, NameWord, Dollar, Digits, NoName, begun_text, begun_fits, owner_text, owner_fits, digits_fit, digits_text, is_begun, is_hex_digit, hex_value, greatest, begins_upper}
+use Rattle.js_tree.specs.NameReader.{Owner, Own, Of, Begun, OneDollar, TwoDollars, Numbered, NameWord, Dollar, Digits, NoName, is_begun, is_hex_digit, hex_value, greatest, begins_upper}
+use Rattle.js_tree.proofs.NameTexts.{begun_text, begun_fits, owner_text, owner_fits, digits_fit, digits_text}
 use Rattle.js_tree.proofs.NameFronts.{and_true, word_is_module, owner_goes_on, word_grows, past_word, digits_go_on, digits_end, digit_is_last, list_all-append, same}
-use Rattle.js_tree.proofs.Automaton.{NoItem, Members, Before, Front, Place, RightOf, FieldIn, ListIn, GivenTo, ConstIn, LetIn, AssignIn, ReturnIn, TestIn, LineIn, MainIn, PortIn, Block, LoopIn, ObjectAt, Value, Ports, TextAt, Literal, Key, PropertyOf, ModuleIn, OutIn, NameAt, Variable, ConstAt, LetAt, AssignAt, LineAt, State, Want, Have, InName, InInt, Minus_seen, InNegative, InText, InEscape, InDigits, InWord, WantName, WantField, WantStatement, InKeyword, Ended, Equals, WantLine, WantLineName, WantOut, HaveOut, Known, Finished, Dead, Word, TrueWord, FalseWord, ListWord, HelperWord, words, word_text, begins_with, begin_statement_words, program_of, minus, reversed_onto}
-use Rattle.js_tree.proofs.Fronts.{place_text, block_text, before_text, object_text, members_text, text_front, name_front, outs_front, outs_text, outs_before, IsFront, place_fits, block_fits, before_fits, lines_fit, front_fits, outs_fit, object_fits, members_fit, text_fits, name_at_fits, escape_fits, is_live, state_fits}
+use Rattle.js_tree.specs.Automaton.{NoItem, Members, Before, Front, Place, RightOf, FieldIn, ListIn, GivenTo, ConstIn, LetIn, AssignIn, ReturnIn, TestIn, LineIn, MainIn, PortIn, Block, LoopIn, ObjectAt, Value, Ports, TextAt, Literal, Key, PropertyOf, ModuleIn, OutIn, NameAt, Variable, ConstAt, LetAt, AssignAt, LineAt, State, Want, Have, InName, InInt, Minus_seen, InNegative, InText, InEscape, InDigits, InWord, WantName, WantField, WantStatement, InKeyword, Ended, Equals, WantLine, WantLineName, WantOut, HaveOut, Known, Finished, Dead, Word, TrueWord, FalseWord, ListWord, HelperWord, words, word_text, begins_with, begin_statement_words, program_of, minus, reversed_onto, is_live}
+use Rattle.js_tree.proofs.Fronts.{place_text, block_text, before_text, object_text, members_text, text_front, name_front, outs_front, outs_text, outs_before, IsFront, place_fits, block_fits, before_fits, lines_fit, front_fits, outs_fit, object_fits, members_fit, text_fits, name_at_fits, escape_fits, state_fits}
 use Rattle.js_tree.proofs.Steps.{outs_end, whole_text, text_grows, spelled_text}
 use Rattle.js_tree.proofs.StepFits.{two, three, thirds, end_fits, reversed_fit}
 use Rattle.js_tree.proofs.Plugs.{shorter, at_value, at_place, at_block, at_statement}

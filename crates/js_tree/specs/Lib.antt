@@ -1,9 +1,8 @@
 pub mod Tree
-pub mod Values
-pub mod Eval
-pub mod Run
 pub mod Text
 pub mod Subset
 pub mod Faults
 pub mod Postorder
 pub mod Insides
+pub mod NameReader
+pub mod Automaton

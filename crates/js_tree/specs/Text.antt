@@ -1,36 +1,15 @@
 -- JsText: which bytes are the text of a program. (ECMA-262: 12.7 names, 12.9.3 numbers, 12.9.4 texts; each construct in one spelling, without
 -- blanks but those behind const, let and return.) It is the fixed front, a line for each constant, the line of `_main`, and the fixed end.
 use Rattle.std.specs.Prelude.{◌≡◌, ℕ, suc, ℤ, pos, negsuc, ◌+◌, ◌/◌, ◌%◌, List, [], ◌∷◌, ◌++◌, Bool, true, false, if◌then◌else◌, ◌&&◌, ◌||◌, ◌==◌, nat_le, nat_lt, codes, decimal}
+pub use Rattle.elm_base.specs.Quoted.{hex_digit, hex4, unit_text, units_text, text_text}
 use Rattle.js_tree.specs.declared.runtime.TheConstants.{HEAD, TAIL}
 use Rattle.js_tree.specs.Tree as js
 use Rattle.js_tree.specs.Tree.{Name, Top, Local, Made, Operator, Plus, Minus, Times, StrictEquals, And, Or, Helper, Js, JInt, JBool, JText, JVar, JArrow, JBlock, JCall, JBinary, JConditional, JObject, JProperty, JList, JHelper, JsList, NoJs, MoreJs, Fields, NoField, MoreField, Stmts, Const, Let, Assign, Return, If, While, Continue, Lines, NoLine, MoreLine, Program}
-
--- a digit of base 16, upper case
-abbrev pub hex_digit : ℕ → ℕ
-hex_digit d = if nat_lt d 10 then d + 48 else d + 55
-
--- four digits of base 16
-abbrev pub hex4 : ℕ → List ℕ
-hex4 u = hex_digit (u / 4096 % 16) ∷ hex_digit (u / 256 % 16) ∷ hex_digit (u / 16 % 16) ∷ hex_digit (u % 16) ∷ []
 
 -- an integer: in decimal, a negative one as (-5)
 abbrev pub int_text : ℤ → List ℕ
 int_text (pos n) = decimal n
 int_text (negsuc n) = codes "(-" ++ decimal (suc n) ++ codes ")"
-
--- a unit inside of a text: 20 to 7E as it is, but for " and \, which a \ stands before; any other as \u and four digits
-abbrev pub unit_text : ℕ → List ℕ
-unit_text u =
-    if u == 34 || u == 92 then 92 ∷ u ∷ []
-    else (if nat_le 32 u && nat_le u 126 then u ∷ [] else codes "\\u" ++ hex4 u)
-
-abbrev pub units_text : List ℕ → List ℕ
-units_text [] = []
-units_text (u ∷ us) = unit_text u ++ units_text us
-
--- a text in its quotes
-abbrev pub text_text : List ℕ → List ℕ
-text_text us = 34 ∷ (units_text us ++ 34 ∷ [])
 
 -- a letter of ASCII, a digit or _
 abbrev pub is_word_char : ℕ → Bool

@@ -114,6 +114,13 @@ declares x (Let y e s) = if same_name x y then true else declares x s
 declares x (Assign y e s) = declares x s
 declares x _ = false
 
+-- the block declares a name
+abbrev pub declares_any : Stmts → Bool
+declares_any (Const x e s) = true
+declares_any (Let x e s) = true
+declares_any (Assign x e s) = declares_any s
+declares_any _ = false
+
 -- the lines before that of `_main`
 pub data Lines : Type 0 where
   NoLine : Lines
@@ -129,10 +136,7 @@ pub record Program : Type 0 where
   pub ins : Fields
   pub outs : List (List ℕ)
 
--- the constants as statements, which return the program
+-- the constants as statements, which return what stands last
 abbrev pub as_statements : Lines → Js → Stmts
 as_statements NoLine main = Return main
 as_statements (MoreLine x e ls) main = Const x e (as_statements ls main)
-
-abbrev pub body_of : Program → Stmts
-body_of p = as_statements p.lines p.main

@@ -1,4 +1,4 @@
-//! The JavaScript of an output: its tree, its text, its conditions, where bytes stop to be such a text, and its meaning.
+//! The JavaScript of an output: its tree, its text, its conditions, and where bytes stop to be such a text.
 #![tactic(auto)]
 
 ghost use Rattle.std.specs.Prelude.{◌≡◌, ℕ, List, true};

@@ -8,11 +8,12 @@ use Rattle.elm_canon.specs.Tree.{Project}
 use Rattle.elm_canon.specs.Run.{SourceRun}
 use Rattle.elm_type.specs.Typing.{IsTyped}
 use Rattle.elm_type.proofs.Programs.{typed_ruled}
-use Rattle.js_tree.specs.Run.{JsRun}
 use Rattle.js_tree.specs.Subset.{in_subset}
+use Rattle.js_meaning.specs.Run.{JsRun}
 use Rattle.js_emit.specs.Emit.{Emit}
 use Rattle.js_emit.specs.Literals.{ProjectHasExactLiterals}
 use Rattle.js_emit.specs.Scoped.{IsScoped}
+use Rattle.js_emit.specs.Spelled.{CanBeSpelled}
 use Rattle.js_emit.proofs.Machines.{same_meaning}
 use Rattle.js_emit.proofs.InSubset.{emitted_in_subset}
 use Rattle.program_laws.proofs.ScopedGroups.{programs_scoped}
@@ -40,11 +41,15 @@ accepted_typed text p a = programs_typed a.items p (module_resolved a.tree a.ite
 pub accepted_exact : (text : List ℕ) (p : Project) → IsAccepted text p → ProjectHasExactLiterals p
 accepted_exact text p a = literals_exact text a.tokens a.tree a.items p a.cut a.spelled a.meant a.linked
 
+-- its names can be spelled
+accepted_spelled : (text : List ℕ) (p : Project) → IsAccepted text p → CanBeSpelled p
+accepted_spelled text p a =
+    let short : length text ≤ 4194304 = a.short in
+    names_spelled text a.tokens a.tree a.items p (omega arith) a.cut a.spelled a.meant a.linked
+
 -- its JavaScript is in the subset
 pub accepted_subset : (text : List ℕ) (p : Project) → IsAccepted text p → in_subset (Emit p) ≡ true
-accepted_subset text p a =
-    let short : length text ≤ 4194304 = a.short in
-    emitted_in_subset p (accepted_scoped text p a) (names_spelled text a.tokens a.tree a.items p (omega arith) a.cut a.spelled a.meant a.linked) (accepted_exact text p a)
+accepted_subset text p a = emitted_in_subset p (accepted_scoped text p a) (accepted_spelled text p a) (accepted_exact text p a)
 
 -- its runs never end where no rule applies
 pub accepted_ruled : (text : List ℕ) (p : Project) → IsAccepted text p → (flags : Wire) (n : ℕ) → IsRuled (SourceRun p flags [] n)
@@ -53,7 +58,7 @@ accepted_ruled text p a flags n = typed_ruled p (accepted_typed text p a) flags 
 -- its JavaScript runs as it does, where its runs end with no number that is not exact
 pub accepted_meaning : (text : List ℕ) (p : Project) → IsAccepted text p → (flags : Wire) → ((n : ℕ) → IsSafe (SourceRun p flags [] n)) → SameRun (SourceRun p flags []) (JsRun (Emit p) flags [])
 accepted_meaning text p a flags safe =
-    same_meaning p (accepted_scoped text p a) flags [] (λ n. claimed (SourceRun p flags [] n) (safe n) (accepted_ruled text p a flags n))
+    same_meaning p (accepted_scoped text p a) (accepted_spelled text p a) flags [] (λ n. claimed (SourceRun p flags [] n) (safe n) (accepted_ruled text p a flags n))
 
 -- what holds of the program of each accepted text holds of each program that a text comes to
 pub for_good : (P : Project → Type 0) → ((text : List ℕ) (p : Project) → IsAccepted text p → P p) → (text : Option (List ℕ)) (p : Project) → Made text (Good p) → P p

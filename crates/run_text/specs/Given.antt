@@ -3,11 +3,11 @@ use Rattle.std.specs.Prelude.{ℕ, ◌+◌, List, [], ◌∷◌, Bool, true, fal
 use Rattle.std.specs.List.{before_first, after_first, onto_first, list_any}
 use Rattle.std.specs.Str.{is_utf8}
 use Rattle.wire_value.specs.Wire.{Wire}
-use Rattle.wire_json.specs.Units.{text_units}
+use Rattle.elm_base.specs.Units.{text_units}
 use Rattle.wire_json.specs.FromJson.{from_bytes}
 use Rattle.js_code.specs.Ports.{is_among}
 
--- a line feed (10) ends a line, and one at the end of the text ends the last line; a text without a byte has no line
+-- a line feed (10) ends a line, and one at the end of the text ends the last line; an empty text has no line
 abbrev pub lines_of : List ℕ → List (List ℕ)
 lines_of [] = []
 lines_of (b ∷ bs) = if b == 10 then [] ∷ lines_of bs else onto_first b (lines_of bs)
@@ -15,7 +15,7 @@ lines_of (b ∷ bs) = if b == 10 then [] ∷ lines_of bs else onto_first b (line
 abbrev pub is_blank : ℕ → Bool
 is_blank b = b == 32
 
--- the bytes of a line before its first blank, all where there is none; and those behind it, none where there is none
+-- the bytes of a line before its first space, or all of them; and those after it, or none
 abbrev pub port_in : List ℕ → List ℕ
 port_in = before_first is_blank
 
@@ -30,26 +30,27 @@ is_some_text (b ∷ bs) = true
 abbrev pub Input : Type 0
 Input = List ℕ × Wire
 
--- what a line gives: something before a blank, in UTF-8, and JSON behind it
+-- what a line gives: something in UTF-8 before a space, and JSON after it
 abbrev pub input_of : List ℕ → Option Input
 input_of line =
     if list_any is_blank line && is_some_text (port_in line) && is_utf8 (port_in line)
     then option_map (λ value. (text_units (port_in line), value)) (from_bytes (json_in line))
     else None
 
--- the row of the first line that is not of its form, or whose port, by its bytes, is none of the program's; or the flags and the inputs
+-- the row of the first line that is not of its form, or whose port, by its bytes, the program does not have; or the
+-- flags and the inputs
 pub data Given : Type 0 where
   BadLine : ℕ → Given
   UnknownPort : ℕ → List ℕ → Given
   Inputs : Wire → List Input → Given
 
--- an input before those of the lines behind
+-- an input before those of the lines that follow
 abbrev pub more_input : Input → Given → Given
 more_input input (BadLine row) = BadLine row
 more_input input (UnknownPort row port) = UnknownPort row port
 more_input input (Inputs flags inputs) = Inputs flags (input ∷ inputs)
 
--- a line that gives this, before the lines behind
+-- a line that gives this, before the lines that follow
 abbrev pub at_line : List (List ℕ) → ℕ → List ℕ → Option Input → Given → Given
 at_line ports row line None behind = BadLine row
 at_line ports row line (Some input) behind = if is_among input.0 ports then more_input input behind else UnknownPort row (port_in line)

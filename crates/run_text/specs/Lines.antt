@@ -1,4 +1,4 @@
--- What the pieces of a text come to; for private clauses.
+-- What the pieces of a text give. Only private clauses use this.
 use Rattle.std.specs.Prelude.{◌≡◌, ℕ, List, [], ◌∷◌, if◌then◌else◌, map, Option, Some, None}
 use Rattle.std.specs.List.{list_any}
 use denote.Ref.{Bor}
@@ -8,7 +8,7 @@ use Rattle.run_text.specs.View.{input_view}
 use Rattle.run_text.specs.declared.given.Line as line
 use Rattle.run_text.specs.declared.given.Rest as rest
 
--- the first line, and those behind it
+-- the first line, and those after it
 abbrev pub lines_with : Option (Bor (List ℕ) × Bor (List ℕ)) → List (List ℕ)
 lines_with None = []
 lines_with (Some cut) = cut.0.now ∷ lines_of cut.1.now
@@ -20,7 +20,7 @@ halves_view (Some cut) = Some (cut.0.now, cut.1.now)
 abbrev pub halves_of : List ℕ → Option (List ℕ × List ℕ)
 halves_of line = if list_any is_blank line then Some (port_in line, json_in line) else None
 
--- what a line that gives this comes to, before what the lines behind give
+-- the outcome of a line that gives this, before what the lines after it give
 abbrev pub line_given : ℕ → line.Line → Given → Given
 line_given row line.Line.Bad behind = BadLine row
 line_given row (line.Line.Unknown port) behind = UnknownPort row port
@@ -29,12 +29,12 @@ line_given row (line.Line.Good input) behind = more_input (input_view input) beh
 abbrev pub Reads : List (List ℕ) → List ℕ → line.Line → Type 0
 Reads ports text found = (row : ℕ) (behind : Given) → at_line ports row text (input_of text) behind ≡ line_given row found behind
 
--- inputs before what the lines behind them give
+-- inputs before what the lines after them give
 abbrev pub inputs_before : List Input → Given → Given
 inputs_before [] behind = behind
 inputs_before (input ∷ inputs) behind = more_input input (inputs_before inputs behind)
 
--- what the lines behind the first give, after these flags
+-- what the lines after the first give, with these flags
 abbrev pub rest_given : Wire → rest.Rest → Given
 rest_given flags (rest.Rest.Bad row) = BadLine row
 rest_given flags (rest.Rest.Unknown row port) = UnknownPort row port

@@ -1,11 +1,13 @@
--- The text that a run is told in: a line for each send, each input of the wrong shape, and an end before all inputs were given.
+-- The text that a run prints: a line for each send, for each input of the wrong shape, and for an end before every
+-- input was given.
 use Rattle.std.specs.Prelude.{ℕ, List, [], ◌∷◌, ◌++◌, Bool, true, false, codes, encode_utf8_all}
 use Rattle.std.specs.Char.Utf16.{utf16_lossy_chars}
 use Rattle.wire_value.specs.Wire.{Wire}
 use Rattle.wire_json.specs.Text.{wire_text, text_text}
 use Rattle.runs.specs.Trace.{Event, Sent, TurnedAway, Last, Ready, FlagsRefused, Crash, NoFuel, NotSafe, NoRule, Trace, Ends, Then}
 
--- a port's name in UTF-8, with U+FFFD for a surrogate without a partner, as an engine prints it (WHATWG Encoding, 8.2, UTF-8 encode)
+-- the name of a port in UTF-8, with U+FFFD for a lone surrogate, as an engine prints it (WHATWG Encoding, 8.2, UTF-8
+-- encode)
 abbrev pub port_text : List ℕ → List ℕ
 port_text port = encode_utf8_all (utf16_lossy_chars port)
 
@@ -20,7 +22,7 @@ abbrev pub event_line : Event → List ℕ
 event_line (Sent port value) = send_line port value
 event_line (TurnedAway port) = refused_line port
 
--- the line that ends a run; none where each input was given
+-- the line that ends a run; none if every input was given
 abbrev pub last_line : Last → List ℕ
 last_line Ready = []
 last_line FlagsRefused = codes "! refused flags\n"
@@ -37,7 +39,7 @@ abbrev pub is_ready_end : Last → Bool
 is_ready_end Ready = true
 is_ready_end _ = false
 
--- each input was given
+-- every input was given
 abbrev pub is_ready : Trace → Bool
 is_ready (Ends last) = is_ready_end last
 is_ready (Then event trace) = is_ready trace

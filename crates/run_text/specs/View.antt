@@ -1,4 +1,4 @@
--- What the program's inputs are, as plain data.
+-- The inputs of the code, as plain data.
 use Rattle.std.specs.Prelude.{map}
 use Rattle.wire_value.specs.View.{wire_view}
 use Rattle.run_text.specs.Given as plain

@@ -5,7 +5,7 @@ ghost use Rattle.std.specs.List.{position_or_len};
 ghost use Rattle.run_text.specs.Given.{lines_of};
 ghost use Rattle.run_text.specs.Lines.{lines_with, halves_of, halves_view};
 
-/// The place of the first such byte, or the number of the bytes where there is none.
+/// The place of the first such byte, or the number of bytes if there is none.
 fn place_of(bytes: &[u8], mark: u8) -> usize
     ensures { result ≡ position_or_len (λ b. b == mark) bytes.now }
 {
@@ -17,7 +17,7 @@ fn place_of(bytes: &[u8], mark: u8) -> usize
     bytes.len()
 }
 
-/// The first line, without its line feed, and what stands behind it; none in a text without a byte.
+/// The first line, without its line feed, and what follows it; none if the text is empty.
 #[tactic(auto, using(crate::proofs::Cutting::line_first, crate::proofs::Cutting::line_last))]
 pub fn cut_line(text: &[u8]) -> Option<(&[u8], &[u8])>
     ensures lines { lines_of text.now ≡ lines_with result }
@@ -33,7 +33,7 @@ pub fn cut_line(text: &[u8]) -> Option<(&[u8], &[u8])>
     Some((text, &[]))
 }
 
-/// What stands before the first blank, and what stands behind it; none where there is no blank.
+/// What stands before the first space, and what stands after it; none if there is no space.
 #[tactic(auto, using(crate::proofs::Cutting::halves_at, crate::proofs::Cutting::no_halves))]
 pub fn cut_blank(line: &[u8]) -> Option<(&[u8], &[u8])>
     ensures { halves_view result ≡ halves_of line.now }

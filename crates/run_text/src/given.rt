@@ -8,9 +8,8 @@ ghost use Rattle.run_text.specs.View.{given_view, input_view};
 ghost use Rattle.run_text.specs.Lines.{Reads, ReadsAll};
 
 use crate::cuts::{cut_blank, cut_line};
-use crate::units::text_units;
 use elm_base::text::Text;
-use elm_base::units::Units;
+use elm_base::units::{Units, text_units};
 use js_code::code::Field;
 use js_code::program::has_name;
 use std::alloc::{AllocError, Global};
@@ -27,9 +26,9 @@ pub struct Input {
 /// What a text of inputs gives. Rows are counted from 1.
 #[derive(Drop)]
 pub enum Given {
-    /// The line of this row is not of its form, and none before it is refused.
+    /// The line of this row is not of its form, and no line before it is refused.
     BadLine(u32),
-    /// The line of this row names this port, which is none of the program's, and no line before it is refused.
+    /// The line of this row names this port, which the program does not have, and no line before it is refused.
     UnknownPort(u32, Text),
     /// The flags, and the inputs.
     Inputs(Wire, Vec<Input>),
@@ -43,7 +42,7 @@ enum Line {
     Good(Input),
 }
 
-/// What the lines behind the first give.
+/// What the lines after the first give.
 #[derive(Drop)]
 enum Rest {
     Bad(u32),
@@ -83,12 +82,12 @@ fn read_line(alloc: Global, line: &[u8], ins: &[Field]) -> Result<Line, AllocErr
     }
     match cut_blank(line) {
         Some((port, _)) => Ok(Line::Unknown(Text::copy(alloc, port)?)),
-        // Does not happen: the line of an input has a blank.
+        // This does not happen: the line of an input has a space.
         None => Ok(Line::Bad),
     }
 }
 
-/// What the lines behind the first give.
+/// What the lines after the first give.
 fn read_lines(alloc: Global, text: &[u8], ins: &[Field]) -> Result<Rest, AllocError>
     requires { length text.now ≤ 4194304 }
     ensures { IfOk result (λ rest. ReadsAll (names_of (fields_of (map field_view ins.now))) text.now rest) }
@@ -108,8 +107,10 @@ fn read_lines(alloc: Global, text: &[u8], ins: &[Field]) -> Result<Rest, AllocEr
     Ok(Rest::Good(inputs))
 }
 
-/// What the text of the inputs of a run gives to a program with these incoming ports: a line with the flags in JSON, and then a line `PORT JSON`
-/// for each input. (RFC 8259.) `text` is the whole text, of which each byte is looked at twice at most before JSON is read; the error is want of
+/// What the text of the inputs of a run gives to a program with these incoming ports: a line with the flags in JSON,
+/// and then a line `PORT JSON` for each input. (RFC 8259.)
+///
+/// `text` is the whole text. Each of its bytes is looked at twice at most before JSON is read. The error is out of
 /// memory.
 pub fn read_inputs(alloc: Global, text: &[u8], ins: &[Field]) -> Result<Given, AllocError>
     requires { length text.now ≤ 4194304 }

@@ -1,9 +1,6 @@
-//! The two texts of a run: its inputs, and what it is told in.
+//! The two texts of a run: its inputs, and the lines that it prints.
 #![tactic(auto)]
 
 mod cuts;
 pub mod given;
-#[cfg(test)]
-mod tests;
 pub mod told;
-mod units;

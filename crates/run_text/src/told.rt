@@ -1,4 +1,4 @@
-//! The text that a run is told in.
+//! The lines that a run prints.
 
 ghost use Rattle.std.specs.Prelude.{◌≡◌, ◌++◌, IfOk, OnOk, map};
 ghost use Rattle.runs.specs.Trace.{FlagsRefused, Crash, NoFuel, NotSafe, NoRule};
@@ -9,7 +9,7 @@ use std::alloc::{AllocError, Global};
 use wire_json::{put_text, to_text};
 use wire_value::Wire;
 
-/// Adds a port's name, with U+FFFD for a surrogate without a partner.
+/// Adds the name of a port, with U+FFFD for a lone surrogate.
 fn put_port(alloc: Global, out: &mut Vec<u8>, port: &[u16]) -> Result<(), AllocError>
     ensures { OnOk result (out.new.items ≡ out.old.items ++ port_text port.now) }
 {
@@ -17,7 +17,7 @@ fn put_port(alloc: Global, out: &mut Vec<u8>, port: &[u16]) -> Result<(), AllocE
     out.extend_from_slice(text.as_bytes())
 }
 
-/// Adds the line of a send: the port, a blank, and the value in compact JSON.
+/// Adds the line of a send: the port, a space, and the value in compact JSON.
 pub fn put_send(
     alloc: Global,
     out: &mut Vec<u8>,
@@ -61,7 +61,7 @@ pub fn put_crash(out: &mut Vec<u8>, text: &[u16]) -> Result<(), AllocError>
     Ok(())
 }
 
-/// Adds the line of a run that was out of fuel.
+/// Adds the line of a run that ran out of fuel.
 pub fn put_out_of_fuel(out: &mut Vec<u8>) -> Result<(), AllocError>
     ensures { OnOk result (out.new.items ≡ out.old.items ++ last_line NoFuel) }
 {
@@ -75,7 +75,7 @@ pub fn put_unsafe(out: &mut Vec<u8>) -> Result<(), AllocError>
     out.extend_from_slice(b"! unsafe\n")
 }
 
-/// Adds the line of a run that came to where no rule applies.
+/// Adds the line of a run that got stuck: no rule applies.
 pub fn put_stuck(out: &mut Vec<u8>) -> Result<(), AllocError>
     ensures { OnOk result (out.new.items ≡ out.old.items ++ last_line NoRule) }
 {

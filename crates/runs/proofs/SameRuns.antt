@@ -73,7 +73,7 @@ back_on {m} left r k l within (starves h) claimed more = subst (λ o. Covers (go
 back_on left r k l within unclaimed_unsafe claimed more = absurd claimed
 back_on left r k l within unclaimed_stuck claimed more = absurd claimed
 
-module _ {V W : Type 0} (R : V → W → Type 0) (nested : Nested V) (machine : Machine W) (alike : IsAlike R nested machine) where
+module _ {V W : Type 0} (P R : V → W → Type 0) (nested : Nested V) (machine : Machine W) (alike : IsAlike P R nested machine) where
   -- what is sent at a stage, and what comes of its model
   soon_stage : (n : ℕ) {s : Stage V} {t : Stage W} (k : V → Trace) (l : ℕ → ℕ → W → Trace) → StageAlike R s t → IsClaimed (at_stage (metered nested) n s k) → ((v : V) (w : W) → R v w → IsClaimed (k v) → Soon (k v) (λ m r. l m r w)) → Soon (at_stage (metered nested) n s k) (λ m r. at_stage machine m t (l m r))
   soon_stage n k l (at_alike {v} {w} {sends} s e) claimed more =
@@ -81,7 +81,7 @@ module _ {V W : Type 0} (R : V → W → Type 0) (nested : Nested V) (machine : 
       (next.0, λ m r enough within. covers_sent e (next.1 m r enough within))
 
   -- the functions that hear an input, one after the other
-  soon_delivered : (n left : ℕ) {fs : List V} {gs : List W} {v p m : V} {w q k : W} (next : V → Trace) (later : ℕ → W → Trace) → AllAlike R fs gs → R v w → R p q → R m k → IsClaimed (deliver (metered nested) n fs v p m left next) → ((m : V) (k : W) → R m k → IsClaimed (next m) → Soon (next m) (λ fuel _. later fuel k)) → Soon (deliver (metered nested) n fs v p m left next) (λ fuel r. deliver machine fuel gs w q k r (later fuel))
+  soon_delivered : (n left : ℕ) {fs : List V} {gs : List W} {v p m : V} {w q k : W} (next : V → Trace) (later : ℕ → W → Trace) → AllAlike R fs gs → R v w → P p q → R m k → IsClaimed (deliver (metered nested) n fs v p m left next) → ((m : V) (k : W) → R m k → IsClaimed (next m) → Soon (next m) (λ fuel _. later fuel k)) → Soon (deliver (metered nested) n fs v p m left next) (λ fuel r. deliver machine fuel gs w q k r (later fuel))
   soon_delivered n left {m = m} {k = k} next later none_alike sv sp sm claimed more = more m k sm claimed
   soon_delivered n left {v = v} {p = p} {w = w} {q = q} next later (more_alike {vs = fs} {ws = gs} sf sfs) sv sp sm claimed more =
       soon_on
@@ -100,14 +100,14 @@ module _ {V W : Type 0} (R : V → W → Type 0) (nested : Nested V) (machine : 
       (λ model model' sm' claimed''. soon_delivered n left next later sfs sv sp sm' claimed'' more))
 
   -- an input, once it is read
-  soon_taken : (n left : ℕ) (input : List ℕ × Wire) {h : Heard V} {h' : Heard W} {p m : V} {q k : W} (next : V → Trace) (later : ℕ → W → Trace) → HeardAlike R h h' → R p q → R m k → IsClaimed (take_in (metered nested) n input h p m left next) → ((m : V) (k : W) → R m k → IsClaimed (next m) → Soon (next m) (λ fuel _. later fuel k)) → Soon (take_in (metered nested) n input h p m left next) (λ fuel r. take_in machine fuel input h' q k r (later fuel))
+  soon_taken : (n left : ℕ) (input : List ℕ × Wire) {h : Heard V} {h' : Heard W} {p m : V} {q k : W} (next : V → Trace) (later : ℕ → W → Trace) → HeardAlike R h h' → P p q → R m k → IsClaimed (take_in (metered nested) n input h p m left next) → ((m : V) (k : W) → R m k → IsClaimed (next m) → Soon (next m) (λ fuel _. later fuel k)) → Soon (take_in (metered nested) n input h p m left next) (λ fuel r. take_in machine fuel input h' q k r (later fuel))
   soon_taken n left input {m = m} {k = k} next later wrong_input sp sm claimed more =
       let after = more m k sm claimed in
       (after.0, λ fuel r enough within. same_event (after.1 fuel r enough within))
   soon_taken n left input next later (heard_by sfs sv) sp sm claimed more = soon_delivered n left next later sfs sv sp sm claimed more
 
   -- each input in turn
-  soon_driven : (n : ℕ) (inputs : List (List ℕ × Wire)) {p m : V} {q k : W} → R p q → R m k → IsClaimed (drive (metered nested) n inputs p m) → Soon (drive (metered nested) n inputs p m) (λ fuel _. drive machine fuel inputs q k)
+  soon_driven : (n : ℕ) (inputs : List (List ℕ × Wire)) {p m : V} {q k : W} → P p q → R m k → IsClaimed (drive (metered nested) n inputs p m) → Soon (drive (metered nested) n inputs p m) (λ fuel _. drive machine fuel inputs q k)
   soon_driven n [] sp sm claimed = (zero, λ fuel r enough within. same_last)
   soon_driven n (input ∷ inputs) {p} {m} {q} {k} sp sm claimed =
       let heard =
@@ -132,7 +132,7 @@ module _ {V W : Type 0} (R : V → W → Type 0) (nested : Nested V) (machine : 
       (heard.0, λ fuel r enough within. heard.1 fuel fuel (omega arith) (omega arith))
 
   -- from the start
-  soon_begun : (n : ℕ) (inputs : List (List ℕ × Wire)) {s : Start V} {t : Start W} → StartAlike R s t → IsClaimed (begin (metered nested) n s inputs) → Soon (begin (metered nested) n s inputs) (λ fuel _. begin machine fuel t inputs)
+  soon_begun : (n : ℕ) (inputs : List (List ℕ × Wire)) {s : Start V} {t : Start W} → StartAlike P R s t → IsClaimed (begin (metered nested) n s inputs) → Soon (begin (metered nested) n s inputs) (λ fuel _. begin machine fuel t inputs)
   soon_begun n inputs wrong_flags claimed = (zero, λ fuel r enough within. same_last)
   soon_begun n inputs (started {p} {q} sp s) claimed =
       soon_stage
@@ -148,7 +148,7 @@ module _ {V W : Type 0} (R : V → W → Type 0) (nested : Nested V) (machine : 
   back_stage n k l (at_alike {v} {w} {sends} s e) claimed more = covers_sent (sym e) (more v w s (claimed_after sends (k v) claimed))
 
   -- the other way: the functions that hear an input
-  back_delivered : (n left r : ℕ) {fs : List V} {gs : List W} {v p m : V} {w q k : W} (next : V → Trace) (later : W → Trace) → r ≤ n → AllAlike R fs gs → R v w → R p q → R m k → IsClaimed (deliver (metered nested) n fs v p m left next) → ((m : V) (k : W) → R m k → IsClaimed (next m) → Covers (later k) (next m)) → Covers (deliver machine n gs w q k r later) (deliver (metered nested) n fs v p m left next)
+  back_delivered : (n left r : ℕ) {fs : List V} {gs : List W} {v p m : V} {w q k : W} (next : V → Trace) (later : W → Trace) → r ≤ n → AllAlike R fs gs → R v w → P p q → R m k → IsClaimed (deliver (metered nested) n fs v p m left next) → ((m : V) (k : W) → R m k → IsClaimed (next m) → Covers (later k) (next m)) → Covers (deliver machine n gs w q k r later) (deliver (metered nested) n fs v p m left next)
   back_delivered n left r {m = m} {k = k} next later within none_alike sv sp sm claimed more = more m k sm claimed
   back_delivered n left r {v = v} {p = p} {w = w} {q = q} next later within (more_alike {vs = fs} {ws = gs} sf sfs) sv sp sm claimed more =
       back_on
@@ -169,12 +169,12 @@ module _ {V W : Type 0} (R : V → W → Type 0) (nested : Nested V) (machine : 
       (λ model model' sm' claimed''. back_delivered n left r' next later within' sfs sv sp sm' claimed'' more))
 
   -- the other way: an input, once it is read
-  back_taken : (n left r : ℕ) (input : List ℕ × Wire) {h : Heard V} {h' : Heard W} {p m : V} {q k : W} (next : V → Trace) (later : W → Trace) → r ≤ n → HeardAlike R h h' → R p q → R m k → IsClaimed (take_in (metered nested) n input h p m left next) → ((m : V) (k : W) → R m k → IsClaimed (next m) → Covers (later k) (next m)) → Covers (take_in machine n input h' q k r later) (take_in (metered nested) n input h p m left next)
+  back_taken : (n left r : ℕ) (input : List ℕ × Wire) {h : Heard V} {h' : Heard W} {p m : V} {q k : W} (next : V → Trace) (later : W → Trace) → r ≤ n → HeardAlike R h h' → P p q → R m k → IsClaimed (take_in (metered nested) n input h p m left next) → ((m : V) (k : W) → R m k → IsClaimed (next m) → Covers (later k) (next m)) → Covers (take_in machine n input h' q k r later) (take_in (metered nested) n input h p m left next)
   back_taken n left r input {m = m} {k = k} next later within wrong_input sp sm claimed more = same_event (more m k sm claimed)
   back_taken n left r input next later within (heard_by sfs sv) sp sm claimed more = back_delivered n left r next later within sfs sv sp sm claimed more
 
   -- the other way: each input in turn
-  back_driven : (n : ℕ) (inputs : List (List ℕ × Wire)) {p m : V} {q k : W} → R p q → R m k → IsClaimed (drive (metered nested) n inputs p m) → Covers (drive machine n inputs q k) (drive (metered nested) n inputs p m)
+  back_driven : (n : ℕ) (inputs : List (List ℕ × Wire)) {p m : V} {q k : W} → P p q → R m k → IsClaimed (drive (metered nested) n inputs p m) → Covers (drive machine n inputs q k) (drive (metered nested) n inputs p m)
   back_driven n [] sp sm claimed = same_last
   back_driven n (input ∷ inputs) {p} {m} {q} {k} sp sm claimed =
       back_on
@@ -201,7 +201,7 @@ module _ {V W : Type 0} (R : V → W → Type 0) (nested : Nested V) (machine : 
       (λ model model' sm' claimed''. back_driven n inputs sp sm' claimed''))
 
   -- the other way: from the start
-  back_begun : (n : ℕ) (inputs : List (List ℕ × Wire)) {s : Start V} {t : Start W} → StartAlike R s t → IsClaimed (begin (metered nested) n s inputs) → Covers (begin machine n t inputs) (begin (metered nested) n s inputs)
+  back_begun : (n : ℕ) (inputs : List (List ℕ × Wire)) {s : Start V} {t : Start W} → StartAlike P R s t → IsClaimed (begin (metered nested) n s inputs) → Covers (begin machine n t inputs) (begin (metered nested) n s inputs)
   back_begun n inputs wrong_flags claimed = same_last
   back_begun n inputs (started {p} {q} sp s) claimed =
       back_stage

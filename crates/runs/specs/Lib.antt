@@ -3,4 +3,3 @@ pub mod Trace
 pub mod Driver
 pub mod Pay
 pub mod Alike
-pub mod View

@@ -1,10 +1,6 @@
 //! Runs of a program under its host, and when two of them are the same.
 #![tactic(auto)]
 
-#[cfg(test)]
-mod tests;
-pub mod trace;
-
 ghost use Rattle.std.specs.Prelude.{◌≡◌, ℕ};
 ghost use Rattle.runs.specs.Trace.{Trace, Covers, SameRun, IsCutOff};
 

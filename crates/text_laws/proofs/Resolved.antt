@@ -11,11 +11,11 @@ use Rattle.elm_tree.specs.Utf16.{units_of}
 use Rattle.elm_tree.specs.Tree.{Pattern, NamePattern, Wildcard, Expr, Int, Name, Qualified, UnitOf, Parens, Pair, Triple, Record, Apply, Chain, Lambda, Exprs, NoExpr, MoreExprs, Operands, NoOperand, MoreOperands, Fields, NoField, MoreFields}
 use Rattle.elm_tree.specs.Words.{one, lower, open_paren, close_paren, open_brace, close_brace, comma, equals, arrow, pattern_words, patterns_words, expr_words, exprs_words, operands_words, fields_words, more_fields_words}
 use Rattle.elm_tree.specs.Resolve.{Scope, is_among, name_meaning, row_of, core_values, bound_names, with_locals, pattern_meaning, functions, Resolves, ResolvesAll, ResolvesOperands, ResolvesFields}
-use Rattle.js_tree.specs.Subset.{is_unit, is_word, is_module}
+use Rattle.js_tree.specs.Subset.{is_word, is_module}
 use Rattle.js_emit.specs.Literals.{HasExactLiterals, AllHaveExactLiterals, FieldsHaveExactLiterals}
 use Rattle.js_emit.specs.Spelled.{can_spell_name, can_spell_parameter, can_spell, can_spell_all, can_spell_fields}
 use Rattle.item_laws.proofs.Chains.{HoldsBehind, chain_holds}
-use Rattle.text_laws.proofs.Spelling.{name_is_word, word_units}
+use Rattle.text_laws.proofs.Spelling.{name_is_word}
 use Rattle.text_laws.proofs.Words.{AreGoodWords, cut_words, join_words}
 
 -- literals are exact, and names can be spelled
@@ -92,7 +92,7 @@ apply_good f cs g h = record { exact = (g.exact, h.exact); spelled = and_from (c
 field_good : (k : List ℕ) (c : canon.Expr) (gs : canon.Fields) → is_word k ≡ true → IsGood c → AreGoodFields gs → AreGoodFields (canon.MoreField k c gs)
 field_good k c gs w g h = record {
   exact = (g.exact, h.exact);
-  spelled = and_from (list_all is_unit k) (can_spell c && can_spell_fields gs) (word_units k w) (and_from (can_spell c) (can_spell_fields gs) g.spelled h.spelled);
+  spelled = and_from (is_word k) (can_spell c && can_spell_fields gs) w (and_from (can_spell c) (can_spell_fields gs) g.spelled h.spelled);
 }
 
 mutual

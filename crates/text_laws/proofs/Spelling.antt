@@ -154,22 +154,3 @@ word_good (c ∷ cs) s n =
 -- a lower-case name
 pub name_is_word : (x : List ℕ) → SpellsName kind.LowerName x → is_word (units_of x) ≡ true
 name_is_word x h = subst (λ bytes. is_word (units_of bytes) ≡ true) (encodes-chars x h.0) (word_good (chars x) (scalars-chars x h.0) h.1)
-
--- each unit of a word is a unit
-name_unit_below : (u : ℕ) → is_name_unit u ≡ true → is_unit u ≡ true
-name_unit_below u e = grind (arith, nat_tests)
-
-letter_unit : (u : ℕ) → is_letter u ≡ true → is_unit u ≡ true
-letter_unit u e = grind (arith, nat_tests)
-
-name_units_below : (us : List ℕ) → list_all is_name_unit us ≡ true → list_all is_unit us ≡ true
-name_units_below [] e = refl
-name_units_below (u ∷ us) e =
-    let r = and_parts (is_name_unit u) (list_all is_name_unit us) e in
-    and_from (is_unit u) (list_all is_unit us) (name_unit_below u r.0) (name_units_below us r.1)
-
-pub word_units : (us : List ℕ) → is_word us ≡ true → list_all is_unit us ≡ true
-word_units [] e = absurd (cc)
-word_units (u ∷ us) e =
-    let r = and_parts (is_letter u) (list_all is_name_unit us) e in
-    and_from (is_unit u) (list_all is_unit us) (letter_unit u r.0) (name_units_below us r.1)

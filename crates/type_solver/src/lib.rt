@@ -8,7 +8,5 @@ mod name;
 pub mod names;
 mod record;
 pub mod solve;
-#[cfg(test)]
-mod tests;
 mod types;
 mod variables;

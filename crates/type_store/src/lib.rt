@@ -14,8 +14,6 @@ mod join;
 mod nodes;
 mod shorten;
 pub mod store;
-#[cfg(test)]
-mod tests;
 mod walk;
 
 /// A type has one outermost form with one list of parts.

@@ -11,7 +11,7 @@ use Rattle.wire_value.specs.Wire.{Wire}
 use Rattle.wire_value.specs.View as value
 use Rattle.wire_value.specs.View.{wire_view, member_view}
 use Rattle.wire_value.specs.declared.wire.Wire as program
-use Rattle.wire_json.specs.Units.{text_units}
+use Rattle.elm_base.specs.Units.{text_units}
 use Rattle.wire_json.specs.FromJson.{put}
 use Rattle.wire_json.specs.Within.{wire_within, items_within, members_within, entries_view}
 

@@ -5,7 +5,7 @@ use Rattle.std.specs.Prelude.{max}
 use Rattle.serde_json.specs.Data.{Data, null, boolean, number, string, array, object, Items, no_items, item, Members, no_members, member, depth, items_depth, members_depth}
 use Rattle.wire_value.specs.Wire as wire
 use Rattle.wire_value.specs.Wire.{Wire}
-use Rattle.wire_json.specs.Units.{text_units}
+use Rattle.elm_base.specs.Units.{text_units}
 use Rattle.wire_json.specs.FromJson.{wire_of, items_of, members_of, put, from_json}
 use Rattle.wire_json.specs.Within.{wire_within, items_within, members_within}
 

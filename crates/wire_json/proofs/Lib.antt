@@ -1,4 +1,3 @@
-pub mod Texts
 pub mod Printing
 pub mod Depths
 pub mod Converting

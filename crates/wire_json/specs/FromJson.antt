@@ -10,7 +10,7 @@ use Rattle.serde_json.specs.Read.{read}
 use Rattle.wire_value.specs.Exact.{is_exact}
 use Rattle.wire_value.specs.Wire as wire
 use Rattle.wire_value.specs.Wire.{Wire}
-use Rattle.wire_json.specs.Units.{text_units}
+use Rattle.elm_base.specs.Units.{text_units}
 
 abbrev pub if_exact : ℤ → Option ℤ
 if_exact n = if is_exact n then Some n else None

@@ -1,4 +1,3 @@
-pub mod Units
 pub mod FromJson
 pub mod Text
 pub mod Within

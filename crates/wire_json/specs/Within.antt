@@ -6,7 +6,7 @@ use Rattle.wire_value.specs.Wire.{Wire}
 use Rattle.wire_value.specs.View as value
 use Rattle.wire_value.specs.View.{wire_view}
 use Rattle.wire_value.specs.declared.wire.Wire as program
-use Rattle.wire_json.specs.Units.{text_units}
+use Rattle.elm_base.specs.Units.{text_units}
 use Rattle.wire_json.specs.FromJson.{whole, put}
 
 abbrev mutual

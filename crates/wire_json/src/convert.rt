@@ -7,8 +7,7 @@ ghost use Rattle.wire_value.specs.View.{wire_view, wires_of, members_of, member_
 ghost use Rattle.wire_json.specs.FromJson.{from_json, whole};
 ghost use Rattle.wire_json.specs.Within.{wire_within, items_within, members_within, entries_view};
 
-use crate::units::text_units;
-use elm_base::units::Units;
+use elm_base::units::{Units, text_units};
 use serde_json::{Map, Number, Value};
 use std::alloc::{AllocError, Global};
 use std::collections::BTreeMap;

@@ -7,11 +7,8 @@ mod parse;
 mod print;
 mod spelling;
 mod task;
-#[cfg(test)]
-mod tests;
-mod units;
 
 pub use convert::from_json;
+pub use elm_base::quoted::write_text as put_text;
 pub use parse::read;
 pub use print::to_text;
-pub use spelling::put_text;

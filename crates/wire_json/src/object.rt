@@ -5,8 +5,8 @@ ghost use Rattle.wire_value.specs.View.{member_view, members_of};
 ghost use Rattle.wire_json.specs.Text.{members_text};
 ghost use Rattle.wire_json.specs.Tasks.{Leaves, task_text, task_weight, members_weight};
 
-use crate::spelling::put_text;
 use crate::task::Task;
+use elm_base::quoted::write_text;
 use std::alloc::AllocError;
 use wire_value::Member;
 
@@ -22,7 +22,7 @@ pub fn put_object<'a>(
     let Some((first, rest)) = members.split_first() else {
         return Ok(text.push(b'}')?);
     };
-    put_text(text, first.name.as_slice())?;
+    write_text(text, first.name.as_slice())?;
     text.push(b':')?;
     tasks.push(Task::Members(rest))?;
     tasks.push(Task::Value(&first.value))?;

@@ -6,8 +6,9 @@ ghost use Rattle.wire_json.specs.Text.{wire_text, wires_text};
 ghost use Rattle.wire_json.specs.Tasks.{Leaves, task_text, task_weight, wire_weight, wires_weight};
 
 use crate::object::{put_members, put_object};
-use crate::spelling::{bool_bytes, put_int, put_text};
+use crate::spelling::{bool_bytes, put_int};
 use crate::task::Task;
+use elm_base::quoted::write_text;
 use std::alloc::{AllocError, Global};
 use wire_value::Wire;
 
@@ -51,7 +52,7 @@ fn put_value<'a>(
         Wire::Null => text.extend_from_slice(b"null"),
         Wire::Bool(value) => text.extend_from_slice(bool_bytes(*value)),
         Wire::Int(value) => put_int(text, *value),
-        Wire::Text(units) => put_text(text, units.as_slice()),
+        Wire::Text(units) => write_text(text, units.as_slice()),
         Wire::List(items) => {
             text.push(b'[')?;
             put_list(text, tasks, items.as_slice())

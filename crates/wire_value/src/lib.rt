@@ -1,8 +1,6 @@
 //! Wire values: what crosses between a program and its host.
 #![tactic(auto)]
 
-#[cfg(test)]
-mod tests;
 pub mod wire;
 
-pub use wire::{Member, Wire, copy, same};
+pub use wire::{Member, Wire};

@@ -27,8 +27,8 @@ fn builds_a_function(rt: HostRuntime) -> Result<(), Fail> {
     let line = "const Main$f=($x=>{return ($x+1);});\n";
     let before = module_with(alloc, function, "(f 41)", "")?;
     assert!(rt; gives(&rt, alloc, before.as_str(), line, "Main$f(41)")?);
-    let behind = module_with(alloc, "", "(f 41)", function)?;
-    assert!(rt; gives(&rt, alloc, behind.as_str(), line, "Main$f(41)")?);
+    let after = module_with(alloc, "", "(f 41)", function)?;
+    assert!(rt; gives(&rt, alloc, after.as_str(), line, "Main$f(41)")?);
     Ok(())
 }
 

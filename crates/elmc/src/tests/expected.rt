@@ -70,7 +70,7 @@ const Main$out=($$0=>{return {"$":0,"a0":"out","a1":_eSame()($$0)};});
 pub const MAIN: &[u8] =
     br##"const Main$main=Platform$worker({"init":($$0=>{return {"$":0,"a0":0,"a1":Main$out("##;
 
-/// What stands behind the number, up to the line of `_main`.
+/// What stands after the number, up to the line of `_main`.
 pub const BACK: &[u8] =
     br##")};}),"update":($$1=>{return ($m=>{return {"$":0,"a0":$m,"a1":Platform$Cmd$none};});}),"subscriptions":($$2=>{return Platform$Sub$none;})});
 const _main={"name":"Main","program":Main$main,"flags":_dAny(),"ins":{},"outs":{"out":0}};

@@ -1,11 +1,13 @@
 //! The program's commands over files and sinks in memory.
 
+mod by_hand;
 mod commands;
 mod definitions;
 mod expected;
 mod failures;
 mod running;
 mod texts;
+mod worked;
 mod workers;
 
 use crate::program::top;
@@ -28,7 +30,7 @@ main =
     Platform.worker
         { init = \_ -> ( (), out "#;
 
-/// The module of the example behind the number.
+/// The module of the example after the number.
 const MODULE_BACK: &str = r#" )
         , update = \_ m -> ( m, Cmd.none )
         , subscriptions = \_ -> Sub.none
@@ -119,19 +121,19 @@ fn module(alloc: Global, argument: &str) -> Result<String, AllocError> {
     module_with(alloc, "", argument, "")
 }
 
-/// The same with definitions before `main` and behind it.
+/// The same with definitions before `main` and after it.
 fn module_with(
     alloc: Global,
     before: &str,
     argument: &str,
-    behind: &str,
+    after: &str,
 ) -> Result<String, AllocError> {
     let mut text = String::from_str(alloc, MODULE_FRONT)?;
     text.push_str(before)?;
     text.push_str(MODULE_MAIN)?;
     text.push_str(argument)?;
     text.push_str(MODULE_BACK)?;
-    text.push_str(behind)?;
+    text.push_str(after)?;
     Ok(text)
 }
 

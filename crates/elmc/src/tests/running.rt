@@ -4,7 +4,7 @@ use super::{Failing, MAKE, NONE_FAILS, module, output, run, run_over};
 use std::test::Fail;
 
 /// The words that run the example.
-const RUN: [&str; 4] = ["elmc", "run", "out.js", "in.txt"];
+pub const RUN: [&str; 4] = ["elmc", "run", "out.js", "in.txt"];
 
 #[test]
 fn runs_what_was_made(rt: HostRuntime) -> Result<(), Fail> {

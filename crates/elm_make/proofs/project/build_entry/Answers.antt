@@ -19,9 +19,9 @@ returns-in-Ok-Bytes-clause-only g c =
 pub returns-in-Ok-TooLong-clause-clean : goal.returns-in-Ok-TooLong-clause-clean
 returns-in-Ok-TooLong-clause-clean g c =
     let path = c.args.source.now in
-    IfSome_then (g.F.Files.tree c.args.files.now) c.in-Ok-TooLong.ensures.answer (λ tree read. subst (λ outcome. IsBuiltFrom (tree path) path outcome) (sym c.in_ok-refused-in-Ok-TooLong.ensures) (too_long_built (tree path) path c.in-Ok-TooLong.field-0 c.in-Ok-TooLong.field-0-is read))
+    IfSome_then (g.F.Files.tree c.args.files.now) c.in-Ok-TooLong.ensures.answer (λ tree read. subst (λ outcome. IsBuiltFrom (tree path) path outcome) (sym c.in_ok-refused-in-Ok-TooLong.ensures.outcome) (too_long_built (tree path) path c.in-Ok-TooLong.field-0 c.in-Ok-TooLong.field-0-is read))
 
 pub returns-in-Ok-TooLong-clause-only : goal.returns-in-Ok-TooLong-clause-only
 returns-in-Ok-TooLong-clause-only g c =
     let path = c.args.source.now in
-    IfSome_then (g.F.Files.tree c.args.files.now) c.in-Ok-TooLong.ensures.answer (λ tree read other from. too_long_built_only (tree path) path c.in-Ok-TooLong.field-0 c.in-Ok-TooLong.field-0-is read other from ∙ sym c.in_ok-refused-in-Ok-TooLong.ensures)
+    IfSome_then (g.F.Files.tree c.args.files.now) c.in-Ok-TooLong.ensures.answer (λ tree read other from. too_long_built_only (tree path) path c.in-Ok-TooLong.field-0 c.in-Ok-TooLong.field-0-is read other from ∙ sym c.in_ok-refused-in-Ok-TooLong.ensures.outcome)

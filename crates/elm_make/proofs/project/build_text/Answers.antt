@@ -21,9 +21,9 @@ returns-in-Some-clause-only g c =
 pub returns-in_ok-refused-in-None-clause-clean : goal.returns-in_ok-refused-in-None-clause-clean
 returns-in_ok-refused-in-None-clause-clean g c =
     let path = c.args.source.now in
-    subst (λ outcome. IsFoldOf ((path, Some c.args.text.now) ∷ []) outcome) (ap (λ p. outcome_for path (text_view p)) c.in-None.is ∙ sym c.in_ok-refused-in-None.ensures) (c.in_ok-program.ensures.clean path)
+    subst (λ outcome. IsFoldOf ((path, Some c.args.text.now) ∷ []) outcome) (ap (λ p. outcome_for path (text_view p)) c.in-None.is ∙ sym c.in_ok-refused-in-None.ensures.outcome) (c.in_ok-program.ensures.clean path)
 
 pub returns-in_ok-refused-in-None-clause-only : goal.returns-in_ok-refused-in-None-clause-only
 returns-in_ok-refused-in-None-clause-only g c =
     let path = c.args.source.now in
-    λ other fold. c.in_ok-program.ensures.only path other fold ∙ ap (λ p. outcome_for path (text_view p)) c.in-None.is ∙ sym c.in_ok-refused-in-None.ensures
+    λ other fold. c.in_ok-program.ensures.only path other fold ∙ ap (λ p. outcome_for path (text_view p)) c.in-None.is ∙ sym c.in_ok-refused-in-None.ensures.outcome

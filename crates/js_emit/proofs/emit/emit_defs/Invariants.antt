@@ -1,4 +1,4 @@
-use Rattle.std.proofs.Common.{◌≡◌, ◌∷◌, drop, map}
+use Rattle.std.proofs.Common.{◌≡◌, ◌∷◌, drop}
 use Rattle.elm_canon.specs.View.{defs_of}
 use Rattle.js_tree.specs.Tree.{Lines}
 use Rattle.js_tree.specs.Postorder.{LinesOf, below, build, lines, lines_then, top}

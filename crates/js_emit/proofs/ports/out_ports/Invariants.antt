@@ -1,7 +1,7 @@
-use Rattle.std.proofs.Common.{◌≡◌, map, drop}
+use Rattle.std.proofs.Common.{◌≡◌, ◌++◌, map, drop}
 use Rattle.elm_canon.specs.View.{group_view}
-use Rattle.js_emit.specs.Emit.{out_ports}
+use Rattle.js_emit.specs.Emit.{port_names}
 use Rattle.js_emit.proofs.ports.out_ports.Given as goal
 
-abbrev pub invariant-loop-i : goal.invariant-loop-i
-invariant-loop-i l = l.ports.items ≡ out_ports (map group_view (drop l.i l.groups.items))
+abbrev pub invariant-loop-group : goal.invariant-loop-group
+invariant-loop-group l = l.ports.items ++ port_names (map group_view (drop l.group-index l.groups.items)) ≡ port_names (map group_view l.groups.items)

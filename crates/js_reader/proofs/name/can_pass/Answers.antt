@@ -1,6 +1,6 @@
 use Rattle.std.proofs.Common.{◌≡◌, ◌-◌, true, suc, nat_le, nat_lt, ap, sym, ◌∙◌, arith}
 use Rattle.std.proofs.lemmas.Bool.Decides.{nat_tests}
-use Rattle.js_tree.proofs.NameReader as reading
+use Rattle.js_tree.specs.NameReader as reading
 use Rattle.js_reader.proofs.Hex.{two_to_come}
 use Rattle.js_reader.proofs.name.can_pass.Goals as goal
 

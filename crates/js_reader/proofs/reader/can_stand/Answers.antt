@@ -1,5 +1,5 @@
 use Rattle.std.proofs.Common.{◌≡◌, ◌-◌, ◌*◌, ◌^◌, ◌||◌, suc, nat_lt, ap, sym, ◌∙◌, arith}
-use Rattle.js_tree.proofs.NameReader.{greatest}
+use Rattle.js_tree.specs.NameReader.{greatest}
 use Rattle.js_reader.proofs.Hex.{two_to_stand}
 use Rattle.js_reader.proofs.reader.can_stand.Goals as goal
 

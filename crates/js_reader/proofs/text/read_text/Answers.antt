@@ -1,6 +1,5 @@
 use Rattle.std.proofs.Common.{length, ◌≤◌, ap, sym, ◌∙◌, arith}
-use Rattle.js_tree.proofs.Fronts.{is_live}
-use Rattle.js_tree.proofs.Automaton.{Finished}
+use Rattle.js_tree.specs.Automaton.{Finished, is_live}
 use Rattle.js_tree.specs.Postorder.{build, top}
 use Rattle.js_reader.specs.View.{state_of, program_at}
 use Rattle.js_reader.specs.Empty.{is_finished}

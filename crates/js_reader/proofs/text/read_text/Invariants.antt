@@ -1,6 +1,5 @@
 use Rattle.std.proofs.Common.{◌≡◌, true, take}
-use Rattle.js_tree.proofs.Automaton.{run, start}
-use Rattle.js_tree.proofs.Fronts.{is_live}
+use Rattle.js_tree.specs.Automaton.{run, start, is_live}
 use Rattle.js_reader.specs.View.{state_of}
 use Rattle.js_reader.proofs.text.read_text.Given as goal
 

@@ -1,18 +1,23 @@
-use Rattle.std.proofs.Common.{ap, ◌∙◌}
-use Rattle.js_tree.proofs.Automaton as machine
-use Rattle.js_reader.specs.Words.{decoder_words, encoder_words, found_word, text_words}
-use Rattle.js_reader.proofs.Words.{find_words}
+use Rattle.std.proofs.Common.{refl, sym, ◌∙◌}
+use Rattle.js_reader.proofs.Words.{find_words, find_later, find_here, find_none}
 use Rattle.js_reader.proofs.word.find_word.Goals as goal
 
-pub returns-in-Some : goal.returns-in-Some
-returns-in-Some c none found =
-    let cs = c.args.bytes.now in
-    let rest = machine.find_word text_words cs (machine.find_word decoder_words cs (machine.find_word encoder_words cs none found) found) found in
-    find_words cs none found ∙ (c.values.ensures rest found ∙ ap (λ r. found_word r rest found) c.in-Some.is)
+pub loop-text-init : goal.loop-text-init
+loop-text-init c = find_words _ refl c.args.bytes.now
 
-pub returns-in-Some-texts : goal.returns-in-Some-texts
-returns-in-Some-texts c none found =
-    let cs = c.args.bytes.now in
-    let rest = machine.find_word decoder_words cs (machine.find_word encoder_words cs none found) found in
-    let later = machine.find_word text_words cs rest found in
-    find_words cs none found ∙ (c.values.ensures later found ∙ (ap (λ r. found_word r later found) c.in_default.is ∙ (c.texts.ensures rest found ∙ ap (λ r. found_word r rest found) c.in-Some-texts.is)))
+pub loop-text-preserved : goal.loop-text-preserved
+loop-text-preserved c none found =
+    let differs = sym c.is.ensures ∙ c.if-is.false in
+    find_later _ c.loop-text.text-index _ c.args.bytes.now none found c.loop-text-test.true differs
+    ∙ c.loop-text.invariant none found
+
+pub returns-then-is : goal.returns-then-is
+returns-then-is c none found =
+    let same = sym c.is.ensures ∙ c.if-is.true in
+    sym (c.loop-text.invariant none found)
+    ∙ find_here _ c.loop-text.text-index _ c.args.bytes.now none found c.loop-text-test.true same
+
+pub returns : goal.returns
+returns c none found =
+    sym (c.loop-text.invariant none found)
+    ∙ find_none _ c.loop-text.text-index c.args.bytes.now none found c.loop-text-test.false

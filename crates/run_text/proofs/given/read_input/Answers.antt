@@ -1,6 +1,6 @@
 use Rattle.std.proofs.Common.{◌≡◌, ◌<◌, length, Some, option_map, sym, ap, ◌∙◌, arith}
 use Rattle.wire_value.specs.View.{wire_view}
-use Rattle.wire_json.specs.Units.{text_units}
+use Rattle.elm_base.specs.Units.{text_units}
 use Rattle.std.proofs.lemmas.Grind.{common_steps}
 use Rattle.run_text.proofs.Inputs.{not_utf8, good_input, some_in}
 use Rattle.run_text.proofs.given.read_input.Goals as goal

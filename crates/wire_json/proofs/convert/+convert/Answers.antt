@@ -1,5 +1,5 @@
 use Rattle.std.proofs.Common.{ap, ◌∙◌}
-use Rattle.wire_json.specs.Units.{text_units}
+use Rattle.elm_base.specs.Units.{text_units}
 use Rattle.wire_json.proofs.Converting.{items_next, items_last, members_next}
 use Rattle.wire_json.proofs.convert.+convert.Goals as goal
 

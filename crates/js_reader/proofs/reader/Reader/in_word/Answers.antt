@@ -1,6 +1,6 @@
 use Rattle.std.proofs.Common.{◌≡◌, ◌++◌, ◌∷◌, [], List, ℕ, ap, sym, ◌∙◌}
 use Rattle.std.proofs.lemmas.Result.{on_ok_weaker}
-use Rattle.js_tree.proofs.Automaton as machine
+use Rattle.js_tree.specs.Automaton as machine
 use Rattle.js_reader.specs.View.{place_of, trees_in}
 use Rattle.js_reader.specs.Words.{begun_word, found_word}
 use Rattle.js_reader.proofs.reader.Reader.in_word.Goals as goal

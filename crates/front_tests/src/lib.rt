@@ -1,0 +1,18 @@
+//! Tests of the crates that a build begins with, one module for each: words of the process, files, texts, tokens, the
+//! order of definitions, and types that are found out.
+#![tactic(auto)]
+
+#[cfg(test)]
+mod base;
+#[cfg(test)]
+mod command_words;
+#[cfg(test)]
+mod definition_order;
+#[cfg(test)]
+mod files;
+#[cfg(test)]
+mod solver;
+#[cfg(test)]
+mod store;
+#[cfg(test)]
+mod tokens;

@@ -1,0 +1,33 @@
+//! Tests of the crates of the JavaScript and of its runs, one module for each.
+#![tactic(auto)]
+
+#[cfg(test)]
+mod arithmetic;
+#[cfg(test)]
+mod code;
+#[cfg(test)]
+mod codecs;
+#[cfg(test)]
+mod compare;
+#[cfg(test)]
+mod helpers;
+#[cfg(test)]
+mod host;
+#[cfg(test)]
+mod json_texts;
+#[cfg(test)]
+mod machine;
+#[cfg(test)]
+mod outputs;
+#[cfg(test)]
+mod printer;
+#[cfg(test)]
+mod reader;
+#[cfg(test)]
+mod round_trip;
+#[cfg(test)]
+mod run_lines;
+#[cfg(test)]
+mod scope;
+#[cfg(test)]
+mod values;

@@ -1,7 +1,0 @@
-use Rattle.std.proofs.Common.{arith}
-use Rattle.std.proofs.lemmas.Grind.{common_steps}
-use Rattle.wire_json.proofs.Texts.{units_text-append}
-use Rattle.wire_json.proofs.spelling.put_text.Goals as goal
-
-pub loop-unit-preserved : goal.loop-unit-preserved
-loop-unit-preserved c = grind (arith, common_steps, units_text-append)
