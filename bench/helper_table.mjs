@@ -1,5 +1,5 @@
 #!/usr/bin/env node
-// Prints what node gives for calls of the functions of the fixed text, as the rows of the tables in crates/js_help/src/tests.rt, and fails where a
+// Prints what node gives for calls of the functions of the fixed text, as the rows of the tables in crates/js_tests/src/helpers.rt, and fails where a
 // row does not stand there. The fixed text is read from crates/js_tree/src/runtime.rt. bench/helper_table.sh skips where node is missing.
 import { readFileSync } from "node:fs";
 
@@ -104,7 +104,7 @@ const answer = (call, values) => {
 };
 
 const packed = (source) => source.replace(/\s/g, "").replace(/,\)/g, ")");
-const tests = packed(text("crates/js_help/src/tests.rt"));
+const tests = packed(text("crates/js_tests/src/helpers.rt"));
 let missing = 0;
 const show = (table, rows) => {
   console.log(`// ${table}: ${rows.length}`);
@@ -118,6 +118,6 @@ const show = (table, rows) => {
 for (const [table, rows] of Object.entries(calls)) show(table, rows.map(([name, source]) => [`Helper::${helpers[name]}`, functions[name], source]));
 show("OPERATIONS", operations.map(([name, source]) => [`Operator::${name}`, operators[name], source]));
 if (missing > 0) {
-  console.error(`${missing} rows do not stand in the tables of crates/js_help/src/tests.rt`);
+  console.error(`${missing} rows do not stand in the tables of crates/js_tests/src/helpers.rt`);
   process.exit(1);
 }

@@ -1,5 +1,5 @@
 #!/usr/bin/env bash
-# Compares what node gives for calls of the functions of the fixed text with the tables in crates/js_help/src/tests.rt. Needs node; skips without it.
+# Compares what node gives for calls of the functions of the runtime with the tables in crates/js_tests/src/helpers.rt. Needs node; skips without it.
 set -eu
 
 root="$(cd "$(dirname "${BASH_SOURCE[0]}")/.." && pwd)"

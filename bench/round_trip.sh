@@ -1,30 +1,42 @@
 #!/usr/bin/env bash
-# Prints and reads an output of some 30 MB, and tells how many bytes a second each takes.
-set -u
-root="$(cd "$(dirname "$0")/.." && pwd)" || exit 1
-cd "$root/crates/js_round_trip" || exit 1
+# Times how fast a large output is read and run: round_trip.sh [LINES]. It is the output that `elmc make` writes for
+# examples/answer, with so many lines more: 330,000 where no number is given, some 30 MB. Prints the seconds that
+# `elmc run` takes for it, and for the output as it was made.
+set -eu
+
+root="$(cd "$(dirname "${BASH_SOURCE[0]}")/.." && pwd)"
 lines="${1:-330000}"
+folder="$(mktemp -d)"
+trap 'rm -rf "$folder"' EXIT
+mkdir "$folder/src"
+cp "$root/examples/answer/src/Main.elm" "$folder/src/Main.elm"
+cd "$folder"
+"$root/elmc" make src/Main.elm --output=made.js >/dev/null
+printf 'null\n' >in.txt
 
-# The program is built before the times are taken.
-rt run >/dev/null 2>&1 </dev/null
-program=out/js_round_trip
-[ -x "$program" ] || { echo "the program could not be built" >&2; exit 1; }
+# The lines stand before that of `main`: functions of two parameters, each of which uses the constant before it.
+main="$(grep -n '^const Main\$main=' made.js | cut -d: -f1)"
+{
+    head -n "$((main - 1))" made.js
+    awk -v lines="$lines" 'BEGIN {
+        print "const Main$a0=0;"
+        body = "($x=>{return ($y=>{return {\"a0\":\"out\",\"a1\":_eSame()(($x+$y)),\"a2\":Main$a%d};});})"
+        for (i = 1; i <= lines; i++)
+            printf "const Main$a%d=" body ";\n", i, i - 1
+    }'
+    tail -n "+$main" made.js
+} >large.js
 
-seconds() { # WHAT
+seconds() { # NAME
     local start end
     start="$(date +%s.%N)"
-    "$program" "$1" "$lines" >/tmp/round_trip.$$ || exit 1
+    "$root/elmc" run "$1.js" in.txt --fuel=4000000000 >"$1.out"
     end="$(date +%s.%N)"
-    awk -v a="$start" -v b="$end" 'BEGIN { printf "%.3f\n", b - a }'
+    echo "$end $start" | awk '{ printf "%.3f", $1 - $2 }'
 }
 
-build="$(seconds build)" || exit 1
-print="$(seconds print)" || exit 1
-read="$(seconds read)" || exit 1
-cat "/tmp/round_trip.$$"
-bytes="$(awk '{ print $3 }' "/tmp/round_trip.$$")"
-rm -f "/tmp/round_trip.$$"
-awk -v n="$bytes" -v b="$build" -v p="$print" -v r="$read" 'BEGIN {
-    printf "printed: %.3f s, %.1f MB a second\n", p - b, n / (p - b) / 1e6
-    printf "read: %.3f s, %.1f MB a second\n", r - p, n / (r - p) / 1e6
-}'
+made="$(seconds made)"
+large="$(seconds large)"
+cmp made.out large.out
+echo "as it was made: $(wc -c <made.js) bytes, $made s"
+echo "with the lines: $(wc -c <large.js) bytes, $large s"
