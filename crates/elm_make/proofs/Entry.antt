@@ -8,7 +8,7 @@ use Rattle.elm_base.specs.declared.fault.Code.TheVariants.{NotYet as not_yet}
 use Rattle.elm_files.specs.declared.outside.Got.{Got}
 use Rattle.elm_files.specs.declared.outside.Got.TheVariants.{Bytes, TooLong}
 use Rattle.elm_files.specs.Tree.{IsReadOf}
-use Rattle.module_compile.specs.Made.{Result, NotYet, Made, too_long}
+use Rattle.first_compile.specs.Made.{Result, NotYet, Made, too_long}
 use Rattle.elm_make.specs.Clean.{Outcome, Faulty, start_line, text_within, IsFoldOf, IsBuiltFrom}
 use Rattle.elm_make.proofs.Folds.{bad_fold, bad_fold_only}
 

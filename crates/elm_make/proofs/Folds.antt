@@ -1,9 +1,9 @@
 -- The fold over one module.
 use Rattle.std.proofs.Common.{◌≡◌, ℕ, List, [], ◌∷◌, Option, Some, None, refl, sym, ap, ◌∙◌, subst, append-nil}
 use Rattle.js_tree.specs.Text.{JsText}
-use Rattle.js_emit.specs.Emit.{Emit}
-use Rattle.elm_canon.specs.Tree.{Project}
-use Rattle.module_compile.specs.Made.{Result, Good, NotYet, Made}
+use Rattle.first_emit.specs.Emit.{Emit}
+use Rattle.first_canon.specs.Tree.{Project}
+use Rattle.first_compile.specs.Made.{Result, Good, NotYet, Made}
 use Rattle.elm_make.specs.Clean.{Outcome, Text, Faulty, start_line, Folded, no_module, one_module, IsFoldOf, IsJoined, linked, outcome_for}
 use Rattle.elm_base.specs.declared.fault.Code.TheVariants.{NotYet as not_yet}
 

@@ -2,9 +2,9 @@
 use Rattle.std.proofs.Common.{◌≡◌, ℕ, List, [], ◌∷◌, Option, Some, None, sym, ap, ◌∙◌, subst}
 use Rattle.elm_base.specs.declared.fault.Code.TheVariants.{BadOutput, EntryNotFound}
 use Rattle.elm_files.specs.Tree.{Tree}
-use Rattle.elm_canon.specs.Tree.{Project}
-use Rattle.module_compile.specs.Made.{Result, Made}
-use Rattle.module_compile.proofs.Same.{same_made}
+use Rattle.first_canon.specs.Tree.{Project}
+use Rattle.first_compile.specs.Made.{Result, Made}
+use Rattle.first_compile.proofs.Same.{same_made}
 use Rattle.elm_make.specs.Paths.{normal_path, is_absolute, is_output, is_entry}
 use Rattle.elm_make.specs.Clean.{Outcome, Text, start_line, text_within, Folded, no_module, one_module, IsJoined, linked, IsFoldOf, IsBuiltFrom, Clean}
 use Rattle.elm_make.proofs.Folds.{folded_one}

@@ -5,18 +5,18 @@ use Rattle.wire_value.specs.Wire.{Wire}
 use Rattle.runs.specs.Trace.{SameRun, IsRuled, IsSafe}
 use Rattle.elm_base.specs.declared.fault.Code.TheVariants.{BadOutput, EntryNotFound}
 use Rattle.elm_files.specs.Tree.{Tree}
-use Rattle.elm_canon.specs.Tree.{Project}
-use Rattle.elm_canon.specs.Run.{SourceRun}
+use Rattle.first_canon.specs.Tree.{Project}
+use Rattle.first_canon.specs.Run.{SourceRun}
 use Rattle.js_tree.specs.Tree.{Program}
 use Rattle.js_tree.specs.Text.{JsText}
 use Rattle.js_tree.specs.Subset.{is_program_spelled, is_program_bound, in_subset}
 use Rattle.js_meaning.specs.Run.{JsRun}
 use Rattle.js_tree.proofs.NameFronts.{and_true}
 use Rattle.js_tree.proofs.Exact.{one_program}
-use Rattle.js_emit.specs.Emit.{Emit}
-use Rattle.module_compile.specs.Made.{Result, Good, NotYet, Made, too_long}
-use Rattle.module_compile.proofs.Accepted.{for_good, accepted_subset, accepted_ruled, accepted_meaning}
-use Rattle.module_compile.proofs.Same.{same_made}
+use Rattle.first_emit.specs.Emit.{Emit}
+use Rattle.first_compile.specs.Made.{Result, Good, NotYet, Made, too_long}
+use Rattle.first_compile.proofs.Accepted.{for_good, accepted_subset, accepted_ruled, accepted_meaning}
+use Rattle.first_compile.proofs.Same.{same_made}
 use Rattle.elm_make.specs.Paths.{normal_path, is_absolute, is_output, is_entry}
 use Rattle.elm_make.specs.Clean.{Faulty, Text, start_line, text_within, fault_lines, IsJoined, linked, IsBuiltFrom, Clean}
 use Rattle.elm_make.specs.Translated.{IsTextOfOne, AreInputs, Translates, IsTranslation}

@@ -4,10 +4,10 @@ use Rattle.elm_base.specs.declared.fault.Code.{Code}
 use Rattle.elm_base.specs.declared.fault.Code.TheVariants.{BadOutput, EntryNotFound, NotYet as not_yet}
 use Rattle.elm_base.specs.Fault.{fault_line_of}
 use Rattle.elm_files.specs.Tree.{Tree}
-use Rattle.elm_canon.specs.Tree.{Project}
+use Rattle.first_canon.specs.Tree.{Project}
 use Rattle.js_tree.specs.Text.{JsText}
-use Rattle.js_emit.specs.Emit.{Emit}
-use Rattle.module_compile.specs.Made.{Result, Good, NotYet, Made}
+use Rattle.first_emit.specs.Emit.{Emit}
+use Rattle.first_compile.specs.Made.{Result, Good, NotYet, Made}
 use Rattle.elm_make.specs.Paths.{normal_path, is_absolute, is_output, is_entry}
 
 -- the outcome of a build: it stopped before any module was compiled, with these lines; modules have faults, with these

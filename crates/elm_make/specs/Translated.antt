@@ -2,13 +2,13 @@
 use Rattle.std.specs.Prelude.{◌≡◌, ℕ, List, [], ◌∷◌, true, Option, Some, None}
 use Rattle.wire_value.specs.Wire.{Wire}
 use Rattle.runs.specs.Trace.{SameRun, IsRuled, IsSafe}
-use Rattle.elm_canon.specs.Tree.{Project}
-use Rattle.elm_canon.specs.Run.{SourceRun}
+use Rattle.first_canon.specs.Tree.{Project}
+use Rattle.first_canon.specs.Run.{SourceRun}
 use Rattle.js_tree.specs.Tree.{Program}
 use Rattle.js_tree.specs.Text.{JsText}
 use Rattle.js_tree.specs.Subset.{in_subset}
 use Rattle.js_meaning.specs.Run.{JsRun}
-use Rattle.module_compile.specs.Made.{Result, Good, Made}
+use Rattle.first_compile.specs.Made.{Result, Good, Made}
 
 -- the bytes have exactly one tree of the subset, this program
 pub record IsTextOfOne (bytes : List ℕ) (program : Program) : Type 0 where

@@ -1,12 +1,12 @@
 //! The types of two small expressions.
 
 use elm_base::units::Units;
-use elm_canon::tree::{Expr, Pattern, Ref};
-use elm_type::types::Type;
+use first_canon::tree::{Expr, Pattern, Ref};
+use first_type::types::Type;
+use first_type_solver::names::Names;
+use first_type_solver::solve::has_type;
 use std::alloc::{AllocError, Global};
 use std::test::Fail;
-use type_solver::names::Names;
-use type_solver::solve::has_type;
 
 fn units(alloc: Global, text: &str) -> Result<Units, AllocError> {
     let units = text.bytes().map(u16::from).collect(alloc)?;

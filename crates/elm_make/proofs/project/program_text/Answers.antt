@@ -1,9 +1,9 @@
 use Rattle.std.proofs.Common.{Some, ap, ◌∙◌, subst}
 use Rattle.js_tree.specs.Postorder.{top}
-use Rattle.js_emit.specs.Emit.{Emit}
-use Rattle.module_compile.specs.Made.{Made}
-use Rattle.module_compile.specs.View.{made_view}
-use Rattle.elm_canon.specs.View.{project_view}
+use Rattle.first_emit.specs.Emit.{Emit}
+use Rattle.first_compile.specs.Made.{Made}
+use Rattle.first_compile.specs.View.{made_view}
+use Rattle.first_canon.specs.View.{project_view}
 use Rattle.elm_make.proofs.Folds.{good_fold, good_fold_only, bad_fold, bad_fold_only}
 use Rattle.elm_make.proofs.project.program_text.Goals as goal
 

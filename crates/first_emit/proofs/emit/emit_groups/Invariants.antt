@@ -1,0 +1,15 @@
+use Rattle.std.proofs.Common.{◌≡◌, ◌∷◌, drop, map}
+use Rattle.first_canon.specs.View.{group_view}
+use Rattle.js_tree.specs.Postorder.{LinesOf, build, lines, lines_then, top}
+use Rattle.first_emit.specs.Emit.{emit_groups}
+use Rattle.first_emit.specs.Literals.{GroupsHaveExactLiterals}
+use Rattle.first_emit.proofs.emit.emit_groups.Given as goal
+
+abbrev pub invariant-loop-group : goal.invariant-loop-group
+invariant-loop-group l =
+    let left = map group_view (drop l.group-index l.group-items) in
+    record {
+      exact : GroupsHaveExactLiterals left;
+      kind : build l.trees ≡ LinesOf (lines (top (build l.trees))) ∷ build l.fn.trees;
+      emitted : lines_then (lines (top (build l.trees))) (emit_groups left) ≡ emit_groups (map group_view l.group-items);
+    }

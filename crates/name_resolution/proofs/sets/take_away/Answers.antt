@@ -1,5 +1,0 @@
-use Rattle.name_resolution.proofs.Changes.{removed}
-use Rattle.name_resolution.proofs.sets.take_away.Goals as goal
-
-pub returns : goal.returns
-returns c = removed c.args.set.now c.remove.new.self c.args.name.now c.remove.ensures.updates
