@@ -398,7 +398,7 @@ module _ (name : Text) (c : List Rule) (options : List Text) (leaf : Plain c opt
       go (Some x) e = ap (λ f. flags_step w word rest f (bundle c flags w.held)) (letters flags g (pending_for p) x e)
           ∙ sym (ap (option_map all_rows) (none_after (given_with p g)))
 
-  -- the words after one that is no value of a waiting option never matter
+  -- the words after one that is not a value of a waiting option never matter
   waited : (word : Text) (rest : List Text) (name : Text) (v : Option Text) (k : ℕ) (g : Given) (n : Text) → Option_of c n
       → long_step (at g (Some (n, [])) (clap_walk.option n) k false) word rest v (arg_by_long c name) ≡ None
   waited word rest name v k g n of = go v (has_name options name) refl

@@ -205,7 +205,7 @@ run_ends g = ends_checked (codes "run") run_rules run_of (map row_for g) refl
 abbrev app : App
 app = built elmc_app
 
--- what comes of the faults of the walk over the program's words, and of where it ends
+-- what follows from the faults of the walk over the program's words, and of where it ends
 abbrev finish : Kinds → Walk → Option Command
 finish faults end = unless (or_else faults
     (or_else (entered_fault app end.stopped) (or_else (settle_fault app.top.rules app.top.args_override_self end.held)

@@ -70,7 +70,7 @@ number_refused least most text begins h fits =
         let high : digits_value 10 text ≤ most = leb-true _ _ y in
         absurd (h (subst IsRead (sym (same_text text begins)) (digits_of_number text x, omega arith)))
 
--- a text in another form is no number
+-- a text in another form is not a number
 pub other_form : (least most : ℕ) (text : Text) → begins_with_plus_or_zero text ≡ true → None ≡ number_in least most text
 other_form least most [] e = refl
 other_form least most (x ∷ rest) e = go (x == 43) (x == 48) refl e

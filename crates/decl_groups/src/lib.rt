@@ -11,7 +11,7 @@ ghost use Rattle.decl_groups.specs.Groups.{IsOrder};
 
 pub use order::groups;
 
-/// The definitions of a module have one order: two orders behind the same placed definitions are equal.
+/// The definitions of a module have one order: two orders after the same placed definitions are equal.
 pub fn order_law()
     ensures { (uses : List (List ℕ)) (placed : List ℕ) (groups others : List (List ℕ)) → IsOrder uses placed groups → IsOrder uses placed others → groups ≡ others }
 {}

@@ -8,7 +8,7 @@ abbrev pub is_nil : List (List ℕ) → Bool
 is_nil [] = true
 is_nil (x ∷ xs) = false
 
--- the joined parts with one more behind them
+-- the joined parts with one more after them
 abbrev pub joined_more : List (List ℕ) → List ℕ → List ℕ
 joined_more xs y = if is_nil xs then y else join_with_byte 47 xs ++ (47 ∷ y)
 
@@ -21,11 +21,11 @@ pub is_nil-snoc : (xs : List (List ℕ)) (y : List ℕ) → is_nil (xs ++ y ∷ 
 is_nil-snoc [] y = refl
 is_nil-snoc (x ∷ xs) y = refl
 
--- what is kept of parts with one more behind them
+-- what is kept of parts with one more after them
 filter-snoc : (kept : List ℕ → Bool) (xs : List (List ℕ)) (y : List ℕ) → kept y ≡ true → filter kept (xs ++ y ∷ []) ≡ filter kept xs ++ y ∷ []
 filter-snoc kept xs y e = filter-append kept xs (y ∷ []) ∙ ap (λ b. filter kept xs ++ (if b then y ∷ [] else [])) e
 
--- a part that is put behind what was kept before, with a slash between them unless it is the first
+-- a part that is put after what was kept before, with a slash between them unless it is the first
 pub record Turned (kept : List ℕ → Bool) (parts : List (List ℕ)) (part text : List ℕ) : Type 0 where
   pub joined : text ≡ join_with_byte 47 (filter kept (parts ++ part ∷ []))
   pub nothing_yet : false ≡ is_nil (filter kept (parts ++ part ∷ []))

@@ -1,4 +1,4 @@
--- The steps of a build that may refuse, one behind the other.
+-- The steps of a build that may refuse, one after the other.
 use Rattle.std.proofs.Common.{◌≡◌, ℕ, List, Bool, true, false, sym, ◌∙◌}
 use Rattle.std.specs.Prelude.{MatchBool}
 use Rattle.elm_make.specs.Clean.{Outcome, Stopped, Text}

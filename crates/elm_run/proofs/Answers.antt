@@ -2,13 +2,13 @@
 use Rattle.std.proofs.Common.{◌≡◌, ℕ, true, false, List, [], ◌∷◌, ◌++◌, refl, sym, ap, ◌∙◌, append_assoc, append-nil}
 use Rattle.std.proofs.lemmas.Bool.{true≢false, false≢true}
 use Rattle.wire_value.specs.Wire.{Wire}
-use Rattle.runs.specs.Ends.{Metered, MVal, MCrashed, MOut, MUnsafe, MStuck}
+use Rattle.runs.specs.Ends.{Metered, MVal, MCrashed, MOutOfFuel, MUnsafe, MStuck}
 use Rattle.runs.specs.Trace.{Trace, Ready, TurnedAway, Ends, Then, send_all}
 use Rattle.runs.specs.Driver.{Stage, At, Start, WrongFlags, Started, Heard, WrongInput, Heard_by, Machine}
 use Rattle.js_tree.specs.Tree.{Program}
 use Rattle.js_meaning.specs.Values.{JVal}
 use Rattle.js_meaning.specs.Run.{j_machine}
-use Rattle.js_run.specs.Sessions.{Outcome, Done, Refused, Crashes, OutOfFuel, Unsafe, Stuck, State, Running, Over, sends_before, session_on, model_in, sends_in, begun, begin_session, deliver_to, answer_heard, answer_input, last_of, refusal_before, told_answer, told}
+use Rattle.js_run.specs.Sessions.{Outcome, Done, Refused, Crashed, OutOfFuel, Unsafe, Stuck, State, Running, Over, sends_before, session_on, model_in, sends_in, begun, begin_session, deliver_to, answer_heard, answer_input, last_of, refusal_before, told_answer, told}
 use Rattle.run_text.specs.Told.{told_text, is_ready, refused_line, last_line, sends_text, send_line}
 use Rattle.elm_run.specs.Steps.{answer_text, start_text, goes_on, is_done, IsRunning, IsBegun}
 
@@ -16,7 +16,7 @@ use Rattle.elm_run.specs.Steps.{answer_text, start_text, goes_on, is_done, IsRun
 abbrev Agrees : {V : Type 0} → State V → Outcome → Type 0
 Agrees state Done = IsRunning state
 Agrees state Refused = IsRunning state
-Agrees state (Crashes t) = state ≡ Over (Crashes t)
+Agrees state (Crashed t) = state ≡ Over (Crashed t)
 Agrees state OutOfFuel = state ≡ Over OutOfFuel
 Agrees state Unsafe = state ≡ Over Unsafe
 Agrees state Stuck = state ≡ Over Stuck
@@ -26,7 +26,7 @@ module _ {V : Type 0} (machine : Machine V) (fuel : ℕ) where
       → Agrees (session_on x (λ stage left2. sends_before (sends_in stage) (deliver_to machine fuel fs value main (model_in stage) left2))).0 (session_on x (λ stage left2. sends_before (sends_in stage) (deliver_to machine fuel fs value main (model_in stage) left2))).1.1
   tell_agrees fs value main rest (MVal stage left) = rest (model_in stage) left
   tell_agrees fs value main rest (MCrashed t) = refl
-  tell_agrees fs value main rest MOut = refl
+  tell_agrees fs value main rest MOutOfFuel = refl
   tell_agrees fs value main rest MUnsafe = refl
   tell_agrees fs value main rest MStuck = refl
 
@@ -39,7 +39,7 @@ module _ {V : Type 0} (machine : Machine V) (fuel : ℕ) where
   heard_agrees main model (MVal WrongInput left) = tt
   heard_agrees main model (MVal (Heard_by fs value) left) = deliver_agrees fs value main model left
   heard_agrees main model (MCrashed t) = refl
-  heard_agrees main model MOut = refl
+  heard_agrees main model MOutOfFuel = refl
   heard_agrees main model MUnsafe = refl
   heard_agrees main model MStuck = refl
 
@@ -51,7 +51,7 @@ module _ {V : Type 0} (machine : Machine V) (fuel : ℕ) where
   start_agrees (MVal WrongFlags left) = refl
   start_agrees (MVal (Started main (At model sends)) left) = tt
   start_agrees (MCrashed t) = refl
-  start_agrees MOut = refl
+  start_agrees MOutOfFuel = refl
   start_agrees MUnsafe = refl
   start_agrees MStuck = refl
 
@@ -66,7 +66,7 @@ module _ {V : Type 0} (machine : Machine V) (fuel : ℕ) where
   told_nothing (Running main model) runs = refl
   told_nothing (Over end) runs = absurd runs
 
--- ---- what is told of sends, and behind them
+-- ---- what is told of sends, and after them
 
 told_sends : (sends : List (List ℕ × Wire)) (t : Trace) → told_text (send_all sends t) ≡ sends_text sends ++ told_text t
 told_sends [] t = refl
@@ -76,11 +76,11 @@ ready_sends : (sends : List (List ℕ × Wire)) (t : Trace) → is_ready (send_a
 ready_sends [] t = refl
 ready_sends (s ∷ ss) t = ready_sends ss t
 
--- the trace goes on with this one, behind this text
+-- the trace goes on with this one, after this text
 abbrev pub GoesOnWith : Trace → List ℕ → Trace → Type 0
 GoesOnWith trace piece next = (told_text trace ≡ piece ++ told_text next) × (is_ready trace ≡ is_ready next)
 
--- the trace ends behind this text, before all inputs were given
+-- the trace ends after this text, before all inputs were given
 abbrev pub EndsWith : Trace → List ℕ → Type 0
 EndsWith trace piece = (told_text trace ≡ piece) × (is_ready trace ≡ false)
 
@@ -91,7 +91,7 @@ module _ {V : Type 0} (port : List ℕ) (state : State V) (sends : List (List �
   on_next : (end : Outcome) → goes_on end ≡ true → Agrees state end → GoesOnWith (told_answer port (state, (sends, end)) next) (answer_text port (sends, end)) (next state) × IsRunning state
   on_next Done on agrees = (done_next, agrees)
   on_next Refused on agrees = ((told_sends sends (Then (TurnedAway port) (next state)) ∙ sym (append_assoc (sends_text sends) (refused_line port) (told_text (next state))), ready_sends sends (Then (TurnedAway port) (next state))), agrees)
-  on_next (Crashes t) on agrees = absurd (false≢true on)
+  on_next (Crashed t) on agrees = absurd (false≢true on)
   on_next OutOfFuel on agrees = absurd (false≢true on)
   on_next Unsafe on agrees = absurd (false≢true on)
   on_next Stuck on agrees = absurd (false≢true on)
@@ -104,7 +104,7 @@ module _ {V : Type 0} (port : List ℕ) (state : State V) (sends : List (List �
   end_next : (end : Outcome) → goes_on end ≡ false → Agrees state end → ((e : Outcome) → next (Over e) ≡ Ends (last_of e)) → EndsWith (told_answer port (state, (sends, end)) next) (answer_text port (sends, end))
   end_next Done on agrees over = absurd (true≢false on)
   end_next Refused on agrees over = absurd (true≢false on)
-  end_next (Crashes t) on agrees over = ends_here (Crashes t) refl agrees over
+  end_next (Crashed t) on agrees over = ends_here (Crashed t) refl agrees over
   end_next OutOfFuel on agrees over = ends_here OutOfFuel refl agrees over
   end_next Unsafe on agrees over = ends_here Unsafe refl agrees over
   end_next Stuck on agrees over = ends_here Stuck refl agrees over
@@ -112,7 +112,7 @@ module _ {V : Type 0} (port : List ℕ) (state : State V) (sends : List (List �
   start_next : (end : Outcome) → is_done end ≡ true → IsBegun state end → GoesOnWith (send_all sends (next state)) (start_text (sends, end)) (next state) × IsRunning state
   start_next Done on agrees = (done_next, agrees)
   start_next Refused on agrees = absurd (false≢true on)
-  start_next (Crashes t) on agrees = absurd (false≢true on)
+  start_next (Crashed t) on agrees = absurd (false≢true on)
   start_next OutOfFuel on agrees = absurd (false≢true on)
   start_next Unsafe on agrees = absurd (false≢true on)
   start_next Stuck on agrees = absurd (false≢true on)
@@ -120,7 +120,7 @@ module _ {V : Type 0} (port : List ℕ) (state : State V) (sends : List (List �
   start_ends : (end : Outcome) → is_done end ≡ false → IsBegun state end → ((e : Outcome) → next (Over e) ≡ Ends (last_of e)) → EndsWith (send_all sends (next state)) (start_text (sends, end))
   start_ends Done on agrees over = absurd (true≢false on)
   start_ends Refused on agrees over = ends_here Refused refl agrees over
-  start_ends (Crashes t) on agrees over = ends_here (Crashes t) refl agrees over
+  start_ends (Crashed t) on agrees over = ends_here (Crashed t) refl agrees over
   start_ends OutOfFuel on agrees over = ends_here OutOfFuel refl agrees over
   start_ends Unsafe on agrees over = ends_here Unsafe refl agrees over
   start_ends Stuck on agrees over = ends_here Stuck refl agrees over
@@ -160,7 +160,7 @@ module _ (p : Program) (f g : Wire) (fuel : ℕ) where
       ≡ session_on x (λ stage left2. sends_before (sends_in stage) (deliver_to (j_machine p g) fuel fs value main (model_in stage) left2))
   tell_same fs value main rest (MVal stage left) = ap (λ r. sends_before (sends_in stage) r) (rest (model_in stage) left)
   tell_same fs value main rest (MCrashed t) = refl
-  tell_same fs value main rest MOut = refl
+  tell_same fs value main rest MOutOfFuel = refl
   tell_same fs value main rest MUnsafe = refl
   tell_same fs value main rest MStuck = refl
 
@@ -173,7 +173,7 @@ module _ (p : Program) (f g : Wire) (fuel : ℕ) where
   heard_same main model (MVal WrongInput left) = refl
   heard_same main model (MVal (Heard_by fs value) left) = deliver_same fs value main model left
   heard_same main model (MCrashed t) = refl
-  heard_same main model MOut = refl
+  heard_same main model MOutOfFuel = refl
   heard_same main model MUnsafe = refl
   heard_same main model MStuck = refl
 

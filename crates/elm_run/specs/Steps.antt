@@ -3,11 +3,12 @@ use Rattle.std.specs.Prelude.{◌≡◌, ◌<◌, ◌≤◌, ◌⊎◌, ℕ, Lis
 use Rattle.elm_base.specs.declared.fault.Code.TheVariants.{FileMissing, GivenFileTooLarge}
 use Rattle.elm_files.specs.Texts.{LongerByPart, longer}
 use Rattle.elm_files.specs.Tree.{Tree}
-use Rattle.runs.specs.Trace.{Trace, Crash, NoFuel, NotSafe, NoRule, send_all}
+use Rattle.runs.specs.Trace as trace
+use Rattle.runs.specs.Trace.{Trace, send_all}
 use Rattle.runs.specs.Driver.{Machine}
 use Rattle.wire_value.specs.Wire.{Wire}
 use Rattle.run_text.specs.Told.{told_text, is_ready, refused_line, last_line, sends_text}
-use Rattle.js_run.specs.Sessions.{Outcome, Done, Refused, Crashes, OutOfFuel, Unsafe, Stuck, Answer, State, Running, Over, last_of, told}
+use Rattle.js_run.specs.Sessions.{Outcome, Done, Refused, Crashed, OutOfFuel, Unsafe, Stuck, Answer, State, Running, Over, last_of, told}
 use Rattle.elm_run.specs.Runs as runs
 use Rattle.elm_run.specs.RunEnd.{Says, HasCause, IsToldIfRose}
 use Rattle.js_tree.specs.Tree.{Program}
@@ -21,10 +22,10 @@ use Rattle.elm_run.specs.declared.course.RunEnd.TheVariants.{File, Sink, NoMemor
 abbrev pub end_line : List ℕ → Outcome → List ℕ
 end_line port Done = []
 end_line port Refused = refused_line port
-end_line port (Crashes text) = last_line (Crash text)
-end_line port OutOfFuel = last_line NoFuel
-end_line port Unsafe = last_line NotSafe
-end_line port Stuck = last_line NoRule
+end_line port (Crashed text) = last_line (trace.Crashed text)
+end_line port OutOfFuel = last_line trace.OutOfFuel
+end_line port Unsafe = last_line trace.Unsafe
+end_line port Stuck = last_line trace.Stuck
 
 abbrev pub answer_text : List ℕ → Answer → List ℕ
 answer_text port answer = sends_text answer.0 ++ end_line port answer.1
@@ -51,7 +52,7 @@ IsRunning (Over end) = ⊥
 abbrev pub IsBegun : {V : Type 0} → State V → Outcome → Type 0
 IsBegun state Done = IsRunning state
 IsBegun state Refused = state ≡ Over Refused
-IsBegun state (Crashes text) = state ≡ Over (Crashes text)
+IsBegun state (Crashed text) = state ≡ Over (Crashed text)
 IsBegun state OutOfFuel = state ≡ Over OutOfFuel
 IsBegun state Unsafe = state ≡ Over Unsafe
 IsBegun state Stuck = state ≡ Over Stuck

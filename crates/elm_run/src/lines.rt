@@ -57,7 +57,7 @@ fn put_last(out: &mut Vec<u8>, end: &End) -> Result<(), AllocError>
     match end {
         End::Ready => Ok(()),
         End::Refused => put_flags_refused(out),
-        End::Crash(text) => put_crash(out, text.as_slice()),
+        End::Crashed(text) => put_crash(out, text.as_slice()),
         End::OutOfFuel => put_out_of_fuel(out),
         End::Unsafe => put_unsafe(out),
         End::Stuck => put_stuck(out),
@@ -71,7 +71,7 @@ fn put_end(alloc: Global, out: &mut Vec<u8>, port: &[u16], end: &End) -> Result<
     match end {
         End::Ready => Ok(()),
         End::Refused => put_refused(alloc, out, port),
-        End::Crash(text) => put_crash(out, text.as_slice()),
+        End::Crashed(text) => put_crash(out, text.as_slice()),
         End::OutOfFuel => put_out_of_fuel(out),
         End::Unsafe => put_unsafe(out),
         End::Stuck => put_stuck(out),

@@ -27,7 +27,7 @@ fn is_done(end: &End) -> bool
 {
     match end {
         End::Ready => true,
-        End::Refused | End::Crash(_) | End::OutOfFuel | End::Unsafe | End::Stuck => false,
+        End::Refused | End::Crashed(_) | End::OutOfFuel | End::Unsafe | End::Stuck => false,
     }
 }
 
@@ -37,7 +37,7 @@ fn goes_on(end: &End) -> bool
 {
     match end {
         End::Ready | End::Refused => true,
-        End::Crash(_) | End::OutOfFuel | End::Unsafe | End::Stuck => false,
+        End::Crashed(_) | End::OutOfFuel | End::Unsafe | End::Stuck => false,
     }
 }
 

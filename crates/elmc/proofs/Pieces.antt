@@ -52,7 +52,7 @@ put old new piece (Ok _) ok part none = all old new piece ok
 put old new piece (Err Failed) ok part none = part
 put old new piece (Err NoMemory) ok part none = nothing old new piece none
 
--- ---- three pieces, one behind the other
+-- ---- three pieces, one after the other
 
 module _ (old new : Option (List ℕ)) (a b c : List ℕ) where
   pub first_part : LongerByPart old a new → LongerByPart old (a ++ (b ++ c)) new

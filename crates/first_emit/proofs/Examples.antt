@@ -2,7 +2,7 @@
 use Rattle.std.specs.Prelude.{◌≡◌, ℕ, pos, List, [], ◌∷◌, ◌++◌, true, codes, refl}
 use Rattle.std.specs.Fmt.{digits}
 use Rattle.wire_value.specs.Wire.{null, int}
-use Rattle.runs.specs.Trace.{Then, Sent, Ends, Ready, FlagsRefused, NoFuel}
+use Rattle.runs.specs.Trace.{Then, Sent, Ends, Ready, FlagsRefused, OutOfFuel}
 use Rattle.first_canon.specs.Tree.{Local, Top, Named, Anything, Expr, Int, Var, Lambda, Apply, UnitOf, Pair, Record, NoExpr, MoreExpr, NoField, MoreField, Payload, IntPayload, UnitPayload, Flags, AnyFlags, IntFlags, Wrapper, EmptyBatch, OutPort, Constant, Given, Project}
 use Rattle.first_canon.specs.Run.{SourceRun}
 use Rattle.js_meaning.specs.Run.{JsRun}
@@ -44,13 +44,13 @@ scoped = refl
 sends : SourceRun (project_of (Int 42)) null [] 1 ≡ Then (Sent (codes "out") (int (pos 42))) (Ends Ready)
 sends = refl
 
-sends_nothing : SourceRun (project_of (Int 42)) null [] 0 ≡ Ends NoFuel
+sends_nothing : SourceRun (project_of (Int 42)) null [] 0 ≡ Ends OutOfFuel
 sends_nothing = refl
 
 sends_js : JsRun (Emit (project_of (Int 42))) null [] 7 ≡ Then (Sent (codes "out") (int (pos 42))) (Ends Ready)
 sends_js = refl
 
-starved : JsRun (Emit (project_of (Int 42))) null [] 2 ≡ Ends NoFuel
+starved : JsRun (Emit (project_of (Int 42))) null [] 2 ≡ Ends OutOfFuel
 starved = refl
 
 spelled : lines_text (Emit (project_of (Int 42))).lines ++ main_text (Emit (project_of (Int 42))) ≡ codes "const Platform$Cmd$none={\"$\":1,\"a0\":{\"$\":0}};\nconst Platform$Sub$none={\"$\":1,\"a0\":{\"$\":0}};\nconst Platform$worker=($$0=>{return {\"$\":0,\"a0\":$$0};});\nconst Main$out=($$0=>{return {\"$\":0,\"a0\":\"out\",\"a1\":_eSame()($$0)};});\nconst Main$main=Platform$worker({\"init\":($$0=>{return {\"$\":0,\"a0\":0,\"a1\":Main$out(42)};}),\"update\":($$1=>{return ($m=>{return {\"$\":0,\"a0\":$m,\"a1\":Platform$Cmd$none};});}),\"subscriptions\":($$2=>{return Platform$Sub$none;})});\nconst _main={\"name\":\"Main\",\"program\":Main$main,\"flags\":_dAny(),\"ins\":{},\"outs\":{\"out\":0}};\n"

@@ -1,7 +1,7 @@
 -- The JavaScript of an expression follows the expression, and so does that of a call.
 use Rattle.std.proofs.Common.{◌≡◌, ℕ, zero, suc, ◌+◌, ◌≤◌, pos, List, true, refl, ap, ◌∙◌, subst, arith}
 use Rattle.std.specs.Prelude.{codes, ◌&&◌}
-use Rattle.runs.specs.Ends.{End, Val, Crashed, OutOfFuel, Unsafe, Stuck, then_do, Metered, MVal, MOut, and_then, with_budget}
+use Rattle.runs.specs.Ends.{End, Val, Crashed, OutOfFuel, Unsafe, Stuck, then_do, Metered, MVal, MOutOfFuel, and_then, with_budget}
 use Rattle.runs.specs.Pay.{Run, Spends, Follows, gives, crashes, starves, unclaimed_unsafe, unclaimed_stuck}
 use Rattle.runs.proofs.Spends.{spends_none, spends_on, spends_then, spends_same, spends_call, behind, follows_after, follows_then, follows_behind}
 use Rattle.first_canon.specs.Tree.{Ref, Pattern, Add, Expr, Int, Var, Lambda, Apply, Binary, UnitOf, Pair, Triple, Record, Exprs, NoExpr, MoreExpr, Fields, NoField, MoreField, IntPayload, UnitPayload}
@@ -190,7 +190,7 @@ module _ (outs : List (List ℕ)) where
   bodies_follow : (n : ℕ) → BodiesFollow n
   bodies_follow zero e d p scope sc sp a w env jenv ra re = starves out
     where
-      out : (b m : ℕ) → m ≤ b → m ≤ zero → behind (paid (JCloV jenv (js_parameter d p) (emit (behind_parameter d p) e)) w) b m ≡ MOut
+      out : (b m : ℕ) → m ≤ b → m ≤ zero → behind (paid (JCloV jenv (js_parameter d p) (emit (behind_parameter d p) e)) w) b m ≡ MOutOfFuel
       out zero m le ln = refl
       out (suc b) zero le ln = refl
       out (suc b) (suc m) le ln = absurd (omega arith)

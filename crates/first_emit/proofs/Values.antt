@@ -3,7 +3,7 @@ use Rattle.std.proofs.Common.{◌≡◌, ℕ, ℤ, List, Bool, true, false, refl
 use Rattle.std.specs.Prelude.{if◌then◌else◌, ◌||◌, codes}
 use Rattle.std.specs.Str.{bytes_eq}
 use Rattle.std.proofs.lemmas.Slice.Eq.{bytes_eq-Decides}
-use Rattle.runs.specs.Ends.{End, Val, Crashed, OutOfFuel, Unsafe, Stuck, then_do, Metered, MVal, MCrashed, MOut, MUnsafe, MStuck, and_then, with_budget}
+use Rattle.runs.specs.Ends.{End, Val, Crashed, OutOfFuel, Unsafe, Stuck, then_do, Metered, MVal, MCrashed, MOutOfFuel, MUnsafe, MStuck, and_then, with_budget}
 use Rattle.runs.specs.Pay.{Follows, gives, unclaimed_unsafe, unclaimed_stuck}
 use Rattle.runs.proofs.Spends.{spends_none, spends_same, follows_after, follows_then}
 use Rattle.first_canon.specs.Tree.{Operator, Add}
@@ -24,7 +24,7 @@ use Rattle.first_emit.proofs.For.{For, for_int, ForFields, for_no_field, for_fie
 pub and_and : {A B C : Type 0} (o : Metered A) (f : A → ℕ → Metered B) (g : B → ℕ → Metered C) → and_then (and_then o f) g ≡ and_then o (λ a m. and_then (f a m) g)
 and_and (MVal a m) f g = refl
 and_and (MCrashed t) f g = refl
-and_and MOut f g = refl
+and_and MOutOfFuel f g = refl
 and_and MUnsafe f g = refl
 and_and MStuck f g = refl
 
@@ -32,7 +32,7 @@ and_and MStuck f g = refl
 pub and_same : {A B : Type 0} (o : Metered A) {f g : A → ℕ → Metered B} → ((a : A) (m : ℕ) → f a m ≡ g a m) → and_then o f ≡ and_then o g
 and_same (MVal a m) h = h a m
 and_same (MCrashed t) h = refl
-and_same MOut h = refl
+and_same MOutOfFuel h = refl
 and_same MUnsafe h = refl
 and_same MStuck h = refl
 

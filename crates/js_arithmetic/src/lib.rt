@@ -1,4 +1,4 @@
-//! The computations behind a running output: numbers and texts as JavaScript has them.
+//! The computations after a running output: numbers and texts as JavaScript has them.
 #![tactic(auto)]
 
 pub mod numbers;

@@ -53,7 +53,7 @@ pub record Examples : Type 0 where
   pub quotient : j_help js.Quotient (two (below 6) (n 2)) ≡ Val (below 2)
   pub quotient_by_zero : j_help js.Quotient (two (n 7) (n 0)) ≡ Val (n 0)
   pub quotient_in_32_bits : j_help js.Quotient (two (n 9007199254740991) (n 1)) ≡ Val (below 0)
-  -- _rem(3,-7) is -1; by 0 it is no number
+  -- _rem(3,-7) is -1; by 0 it is not a number
   pub remainder : j_help js.Remainder (two (n 3) (below 6)) ≡ Val (below 0)
   pub remainder_by_zero : j_help js.Remainder (two (n 0) (n 1)) ≡ Unsafe
   -- _and(-1,4294967298) is 2, _not(5) is -6

@@ -32,7 +32,7 @@ abbrev pub line_text : LinesBefore → List ℕ
 line_text NoLineYet = []
 line_text (LineThen before x e) = codes "const " ++ name_text x ++ codes "=" ++ js_text e ++ codes ";\n"
 
--- the brackets behind an object with the name of its field, if it is a property
+-- the brackets after an object with the name of its field, if it is a property
 abbrev pub key_text : Js → List ℕ
 key_text (JProperty e k) = codes "[" ++ text_text k ++ codes "]"
 key_text _ = []

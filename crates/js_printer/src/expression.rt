@@ -166,7 +166,7 @@ pub fn write_expression(
     }
 }
 
-/// Writes the brackets behind an object, with the name of its field.
+/// Writes the brackets after an object, with the name of its field.
 pub fn write_key(text: &mut Vec<u8>, trees: &Trees, place: usize) -> Result<(), AllocError>
     requires { place ≤ length trees.now }
     ensures { (tasks : List Task) → OnOk result (IsStep trees.now (Task.Key place) text.old.items tasks text.new.items tasks) }
@@ -200,7 +200,7 @@ pub fn leave_items(tasks: &mut Vec<Task>, trees: &Trees, place: usize) -> Result
     )
 }
 
-/// Leaves items that another one follows, each with the comma behind it.
+/// Leaves items that another one follows, each with the comma after it.
 pub fn leave_items_before(
     tasks: &mut Vec<Task>,
     trees: &Trees,

@@ -24,7 +24,7 @@ pub fn leave_members(tasks: &mut Vec<Task>, trees: &Trees, place: usize) -> Resu
     push_parts(tasks, &[Task::MembersBefore(before), Task::Member(place)])
 }
 
-/// Leaves fields that another one follows, each with the comma behind it.
+/// Leaves fields that another one follows, each with the comma after it.
 pub fn leave_members_before(
     tasks: &mut Vec<Task>,
     trees: &Trees,

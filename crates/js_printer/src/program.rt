@@ -49,7 +49,7 @@ pub fn write_line(
     write_value(text, tasks, name, place - 1, b";\n")
 }
 
-/// Writes the fixed text in front of a program, and leaves its lines and the fixed text behind it.
+/// Writes the fixed text in front of a program, and leaves its lines and the fixed text after it.
 pub fn write_program(
     text: &mut Vec<u8>,
     tasks: &mut Vec<Task>,

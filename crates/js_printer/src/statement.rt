@@ -11,7 +11,7 @@ use js_tree::tree::{Name, Node};
 use js_tree::trees::Trees;
 use std::alloc::AllocError;
 
-/// Writes a name that gets a value, and leaves the value, which ends at that place, and what stands behind it.
+/// Writes a name that gets a value, and leaves the value, which ends at that place, and what stands after it.
 pub fn write_value(
     text: &mut Vec<u8>,
     tasks: &mut Vec<Task>,

@@ -11,7 +11,7 @@ pub enum Task {
     Bytes(&'static [u8]),
     /// An expression.
     Expression(usize),
-    /// The brackets behind an object, with the name of its field.
+    /// The brackets after an object, with the name of its field.
     Key(usize),
     /// Items with commas between them.
     Items(usize),

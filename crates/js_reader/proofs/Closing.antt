@@ -1,4 +1,4 @@
--- The fixed end, behind the bytes before it.
+-- The fixed end, after the bytes before it.
 use Rattle.std.proofs.Common.{◌≡◌, ℕ, List, [], ◌∷◌, ◌++◌, true, ◌==◌, if◌then◌else◌, refl, ap, ◌∙◌, arith}
 use Rattle.std.proofs.lemmas.Bool.Decides.{nat_tests}
 use Rattle.js_tree.specs.declared.runtime.TheConstants.{TAIL}

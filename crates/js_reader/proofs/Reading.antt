@@ -70,7 +70,7 @@ not_live s h = by_cases (live_or_dead s)
     by_cases (inl l) = absurd cc
     by_cases (inr d) = d
 
--- the states of a reader before a byte and behind it, where that leads nowhere
+-- the states of a reader before a byte and after it, where that leads nowhere
 pub dead_behind : (bytes : List ℕ) (i d : ℕ) (s t : State) (p : Pos) → i < length bytes → s ≡ run start (take i bytes) → is_live s ≡ true → t ≡ step s (get_or bytes i d) → is_live t ≡ false
     → place_view p ≡ place_behind first_place (take i bytes) → IsNoText (At p) bytes
 dead_behind bytes i d s t p h e l f n q =

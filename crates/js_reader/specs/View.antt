@@ -107,7 +107,7 @@ outs_in r = reverse r.outs.items
 abbrev pub want_out_in : Reader → State
 want_out_in r = machine.WantOut (front_of r.entry (below (trees_in r))) (members_then (members (top (trees_in r))) NoField) (outs_in r)
 
--- what comes behind known bytes
+-- what comes after known bytes
 abbrev pub after_in : after.After → Reader → State
 after_in after.After.Want r = machine.Want (place_in r)
 after_in after.After.Have r = machine.Have (expression (top (trees_in r))) (place_of r.frames r.entry (below (trees_in r)))

@@ -14,31 +14,31 @@ pub enum Frame {
     Argument,
     /// The first expression in a bracket.
     First,
-    /// The right one of an operator, behind the last tree.
+    /// The right one of an operator, after the last tree.
     Right(Operator),
-    /// Behind the question mark, of the test that the last tree is.
+    /// After the question mark, of the test that the last tree is.
     Then,
-    /// Behind the colon.
+    /// After the colon.
     Else,
-    /// The value of a field, behind the fields before it.
+    /// The value of a field, after the fields before it.
     Field(Units),
-    /// In a list, behind the items before it.
+    /// In a list, after the items before it.
     List,
     /// An argument of a function of the fixed text.
     Given(Helper),
-    /// In a statement, behind those before it.
+    /// In a statement, after those before it.
     Const(Name),
     Let(Name),
     Assign(Name),
     Return,
     Test,
-    /// In a line, behind those before it.
+    /// In a line, after those before it.
     Line(Name),
-    /// The decoder of the flags, behind the lines and the program.
+    /// The decoder of the flags, after the lines and the program.
     Flags,
-    /// The decoder of an incoming port, behind the ports before it.
+    /// The decoder of an incoming port, after the ports before it.
     Port(Units),
-    /// The block of a function, of one that is called at once, behind if and else, and of a loop.
+    /// The block of a function, of one that is called at once, after if and else, and of a loop.
     Body(Name),
     Called,
     ThenBlock,
@@ -71,7 +71,7 @@ impl Frames {
         }
     }
 
-    /// Puts a frame inside of the others. The error is want of memory, and then they are as before.
+    /// Puts a frame inside of the others. The error means that memory ran out, and then they are as before.
     pub fn push(&mut self, frame: Frame) -> Result<(), AllocError>
         ensures ok { OnOk result (self.new ≡ frame ∷ self.old) }
         ensures err { OnErr result (self.new ≡ self.old) }

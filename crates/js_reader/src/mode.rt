@@ -37,7 +37,7 @@ pub enum Naming {
     Line,
 }
 
-/// What comes behind bytes that are known.
+/// What comes after bytes that are known.
 #[derive(Clone, Copy)]
 pub enum After {
     Want,
@@ -57,21 +57,21 @@ pub enum After {
 pub enum Mode {
     /// Before an expression.
     Want,
-    /// Behind an expression.
+    /// After an expression.
     Have,
     /// In a name.
     Name(Naming),
     /// In a number.
     Int(u64),
-    /// Behind the `-` of a negative number.
+    /// After the `-` of a negative number.
     Minus,
     /// In a negative number, without its `-`.
     Negative(u64),
     /// In a text.
     Text(Text),
-    /// Behind the `\` of a unit.
+    /// After the `\` of a unit.
     Escape(Text),
-    /// In the digits of base 16 of a unit: how many are to come behind the next, and the number that they are.
+    /// In the digits of base 16 of a unit: how many are to come after the next, and the number that they are.
     Digits(u8, u16, Text),
     /// In a word that an expression begins with.
     Word,
@@ -83,9 +83,9 @@ pub enum Mode {
     Statement,
     /// In a word that a statement begins with.
     Keyword,
-    /// Behind the last statement of a block.
+    /// After the last statement of a block.
     Ended,
-    /// Behind an `=` behind the first expression in a bracket, that the last tree is.
+    /// After an `=` after the first expression in a bracket, that the last tree is.
     Equals,
     /// Before a line.
     Line,
@@ -93,7 +93,7 @@ pub enum Mode {
     LineName,
     /// Before an outgoing port.
     Out,
-    /// Behind the name of an outgoing port and its 0.
+    /// After the name of an outgoing port and its 0.
     OutDone,
     /// Before bytes that are known.
     Known(&'static [u8], After),
@@ -101,6 +101,6 @@ pub enum Mode {
     Closing(&'static [u8]),
     /// At the end.
     Finished,
-    /// Behind bytes that begin no text.
+    /// After bytes that begin no text.
     Dead,
 }

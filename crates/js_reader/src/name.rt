@@ -24,7 +24,7 @@ pub enum Phase {
     Word,
     /// A word and `$`.
     Dollar,
-    /// A word, `$$` and digits of base 16: how many are to come behind the next, and the number that they are.
+    /// A word, `$$` and digits of base 16: how many are to come after the next, and the number that they are.
     Digits(u8, u16),
     /// Something that begins no name.
     NoName,

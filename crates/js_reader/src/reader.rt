@@ -103,7 +103,7 @@ impl Reader {
         }
     }
 
-    /// Behind the first expression in a bracket.
+    /// After the first expression in a bracket.
     fn operator(&mut self, byte: u8) -> Result<(), AllocError>
         ensures { OnOk result (state_of self.new ≡ machine.close (machine.FirstIn (place_of self.old.frames self.old.entry (below (trees_in self.old)))) (expression (top (trees_in self.old))) byte) }
     {
@@ -129,7 +129,7 @@ impl Reader {
         }
     }
 
-    /// Behind an operator of one character.
+    /// After an operator of one character.
     fn right(&mut self, operator: Operator) -> Result<(), AllocError>
         ensures { OnOk result (state_of self.new ≡ machine.Want (machine.RightOf (operator_view operator) (expression (top (trees_in self.old))) (place_of self.old.frames self.old.entry (below (trees_in self.old))))) }
     {
@@ -138,7 +138,7 @@ impl Reader {
         Ok(())
     }
 
-    /// Behind the first character of an operator that goes on so.
+    /// After the first character of an operator that goes on so.
     fn second(&mut self, operator: Operator, rest: &'static [u8]) -> Result<(), AllocError>
         ensures { OnOk result (state_of self.new ≡ machine.Known rest.now (machine.Want (machine.RightOf (operator_view operator) (expression (top (trees_in self.old))) (place_of self.old.frames self.old.entry (below (trees_in self.old)))))) }
     {
@@ -147,7 +147,7 @@ impl Reader {
         Ok(())
     }
 
-    /// Behind the expression behind a question mark.
+    /// After the expression after a question mark.
     fn colon(&mut self, byte: u8) -> Result<(), AllocError>
         ensures { OnOk result (state_of self.new ≡ machine.close (machine.ThenOf (expression (top (below (trees_in self.old)))) (place_of self.old.frames self.old.entry (below (below (trees_in self.old))))) (expression (top (trees_in self.old))) byte) }
     {
@@ -160,7 +160,7 @@ impl Reader {
         Ok(())
     }
 
-    /// Behind the value of a field of that name.
+    /// After the value of a field of that name.
     fn close_field(&mut self, byte: u8, name: Units) -> Result<(), AllocError>
         ensures { OnOk result (state_of self.new ≡ machine.close (machine.FieldIn (members (top (below (trees_in self.old)))) name (place_of self.old.frames self.old.entry (below (below (trees_in self.old))))) (expression (top (trees_in self.old))) byte) }
     {
@@ -179,7 +179,7 @@ impl Reader {
         Ok(())
     }
 
-    /// Behind an item of a list.
+    /// After an item of a list.
     fn close_item(&mut self, byte: u8) -> Result<(), AllocError>
         ensures { OnOk result (state_of self.new ≡ machine.close (machine.ListIn (items (top (below (trees_in self.old)))) (place_of self.old.frames self.old.entry (below (below (trees_in self.old))))) (expression (top (trees_in self.old))) byte) }
     {
@@ -199,7 +199,7 @@ impl Reader {
         Ok(())
     }
 
-    /// Behind an argument of a function of the fixed text.
+    /// After an argument of a function of the fixed text.
     fn close_given(&mut self, byte: u8, helper: Helper) -> Result<(), AllocError>
         ensures { OnOk result (state_of self.new ≡ machine.close (machine.GivenTo (helper_view helper) (items (top (below (trees_in self.old)))) (place_of self.old.frames self.old.entry (below (below (trees_in self.old))))) (expression (top (trees_in self.old))) byte) }
     {
@@ -241,7 +241,7 @@ impl Reader {
         Ok(())
     }
 
-    /// Behind the expression of a `return`.
+    /// After the expression of a `return`.
     fn close_return(&mut self, byte: u8) -> Result<(), AllocError>
         ensures { OnOk result (state_of self.new ≡ machine.close (machine.ReturnIn (statements (top (below (trees_in self.old)))) (block_of self.old.frames self.old.entry (below (below (trees_in self.old))))) (expression (top (trees_in self.old))) byte) }
     {
@@ -254,7 +254,7 @@ impl Reader {
         Ok(())
     }
 
-    /// Behind the test of an `if`.
+    /// After the test of an `if`.
     fn close_test(&mut self, byte: u8) -> Result<(), AllocError>
         ensures { OnOk result (state_of self.new ≡ machine.close (machine.TestIn (statements (top (below (trees_in self.old)))) (block_of self.old.frames self.old.entry (below (below (trees_in self.old))))) (expression (top (trees_in self.old))) byte) }
     {
@@ -268,7 +268,7 @@ impl Reader {
         Ok(())
     }
 
-    /// Behind the expression of a line that declares that name.
+    /// After the expression of a line that declares that name.
     fn close_line(&mut self, byte: u8, name: Name) -> Result<(), AllocError>
         ensures { OnOk result (state_of self.new ≡ machine.close (machine.LineIn (lines (top (below (trees_in self.old)))) (name_view name)) (expression (top (trees_in self.old))) byte) }
     {
@@ -281,7 +281,7 @@ impl Reader {
         Ok(())
     }
 
-    /// Behind the program of `_main`.
+    /// After the program of `_main`.
     fn close_main(&mut self, byte: u8) -> Result<(), AllocError>
         ensures { OnOk result (state_of self.new ≡ machine.close (machine.MainIn (lines (top (below (trees_in self.old)))) self.old.entry) (expression (top (trees_in self.old))) byte) }
     {
@@ -294,7 +294,7 @@ impl Reader {
         Ok(())
     }
 
-    /// Behind the decoder of the flags.
+    /// After the decoder of the flags.
     fn close_flags(&mut self, byte: u8) -> Result<(), AllocError>
         ensures { OnOk result (state_of self.new ≡ machine.close (machine.FlagsIn (lines (top (below (below (trees_in self.old))))) self.old.entry (expression (top (below (trees_in self.old))))) (expression (top (trees_in self.old))) byte) }
     {
@@ -307,7 +307,7 @@ impl Reader {
         Ok(())
     }
 
-    /// Behind the decoder of the incoming port of that name.
+    /// After the decoder of the incoming port of that name.
     fn close_port(&mut self, byte: u8, name: Units) -> Result<(), AllocError>
         ensures { OnOk result (state_of self.new ≡ machine.close (machine.PortIn (front_of self.old.entry (below (below (trees_in self.old)))) (members (top (below (trees_in self.old)))) name) (expression (top (trees_in self.old))) byte) }
     {
@@ -325,7 +325,7 @@ impl Reader {
         Ok(())
     }
 
-    /// Behind the incoming ports.
+    /// After the incoming ports.
     fn begin_outs(&mut self)
         ensures { state_of self.new ≡ machine.Known (codes ",\"outs\":{") (machine.WantOut (front_of self.old.entry (below (trees_in self.old))) (members_then (members (top (trees_in self.old))) NoField) []) }
     {
@@ -387,7 +387,7 @@ impl Reader {
         Ok(())
     }
 
-    /// Behind an expression.
+    /// After an expression.
     fn have(&mut self, byte: u8) -> Result<(), AllocError>
         ensures { OnOk result (state_of self.new ≡ machine.have (expression (top (trees_in self.old))) (place_of self.old.frames self.old.entry (below (trees_in self.old))) byte) }
     {
@@ -524,7 +524,7 @@ impl Reader {
         !matches!(self.trees.node(self.trees.len()), Some(Node::Field(_)))
     }
 
-    /// Behind a bracket, at what is no expression.
+    /// After a bracket, at what is no expression.
     fn no_first(&mut self, byte: u8) -> Result<(), AllocError>
         ensures { OnOk result (state_of self.new ≡ machine.no_expression (machine.FirstIn (place_of self.old.frames self.old.entry (trees_in self.old))) byte) }
     {
@@ -536,7 +536,7 @@ impl Reader {
         Ok(())
     }
 
-    /// Behind `(()`.
+    /// After `(()`.
     fn no_parameter(&mut self) -> Result<(), AllocError>
         ensures { OnOk result (state_of self.new ≡ machine.no_parameter (place_of self.old.frames self.old.entry (trees_in self.old)) 41) }
     {
@@ -564,7 +564,7 @@ impl Reader {
         self.at_word(found)
     }
 
-    /// Behind a word, if one has been found.
+    /// After a word, if one has been found.
     fn at_word(&mut self, found: Option<Word>) -> Result<(), AllocError>
         ensures { OnOk result (state_of self.new ≡ found_word found (begun_word self.old.word.items (place_of self.old.frames self.old.entry (trees_in self.old))) (λ w. machine.behind_word w (place_of self.old.frames self.old.entry (trees_in self.old)))) }
     {
@@ -579,7 +579,7 @@ impl Reader {
         self.behind_word(word)
     }
 
-    /// Behind a word that an expression begins with.
+    /// After a word that an expression begins with.
     fn behind_word(&mut self, word: Word) -> Result<(), AllocError>
         ensures { OnOk result (state_of self.new ≡ machine.behind_word (word_view word) (place_of self.old.frames self.old.entry (trees_in self.old))) }
     {
@@ -614,7 +614,7 @@ impl Reader {
         self.at_keyword()
     }
 
-    /// Behind a word that a statement begins with, if one has been found.
+    /// After a word that a statement begins with, if one has been found.
     fn at_keyword(&mut self) -> Result<(), AllocError>
         ensures { OnOk result (state_of self.new ≡ machine.in_keyword self.old.word.items (statements (top (trees_in self.old))) (block_of self.old.frames self.old.entry (below (trees_in self.old)))) }
     {
@@ -643,7 +643,7 @@ impl Reader {
         Ok(())
     }
 
-    /// At one byte more of a name, or behind it.
+    /// At one byte more of a name, or after it.
     fn name(&mut self, byte: u8, naming: Naming) -> Result<(), AllocError>
         ensures { OnOk result (state_of self.new ≡ machine.in_name (begun_of self.old.name) (naming_of naming self.old.frames self.old.entry (trees_in self.old)) byte) }
     {
@@ -656,7 +656,7 @@ impl Reader {
         self.end_name(name, byte, naming)
     }
 
-    /// Behind what may be a name.
+    /// After what may be a name.
     fn end_name(&mut self, name: Option<Name>, byte: u8, naming: Naming) -> Result<(), AllocError>
         ensures { OnOk result (state_of self.new ≡ machine.end_name (found_of name) (naming_of naming self.old.frames self.old.entry (trees_in self.old)) byte) }
     {
@@ -669,7 +669,7 @@ impl Reader {
         }
     }
 
-    /// Behind a name.
+    /// After a name.
     fn behind_name(&mut self, name: Name, byte: u8, naming: Naming) -> Result<(), AllocError>
         ensures { OnOk result (state_of self.new ≡ machine.behind_name (name_view name) (naming_of naming self.old.frames self.old.entry (trees_in self.old)) byte) }
     {
@@ -704,7 +704,7 @@ impl Reader {
         Ok(())
     }
 
-    /// Behind a name that is an expression.
+    /// After a name that is an expression.
     fn behind_variable(&mut self, name: Name, byte: u8) -> Result<(), AllocError>
         ensures { OnOk result (state_of self.new ≡ machine.have (JVar (name_view name)) (place_of self.old.frames self.old.entry (trees_in self.old)) byte) }
     {
@@ -712,7 +712,7 @@ impl Reader {
         self.have(byte)
     }
 
-    /// At one digit more of a number, or behind it.
+    /// At one digit more of a number, or after it.
     fn int(&mut self, number: u64, byte: u8) -> Result<(), AllocError>
         ensures { OnOk result (state_of self.new ≡ machine.in_int number (place_of self.old.frames self.old.entry (trees_in self.old)) byte) }
     {
@@ -756,7 +756,7 @@ impl Reader {
         };
     }
 
-    /// At one digit more of a negative number, or behind it.
+    /// At one digit more of a negative number, or after it.
     fn negative(&mut self, number: u64, byte: u8) -> Result<(), AllocError>
         ensures { OnOk result (state_of self.new ≡ machine.in_negative number (place_of self.old.frames self.old.entry (trees_in self.old)) byte) }
     {
@@ -802,7 +802,7 @@ impl Reader {
         Ok(())
     }
 
-    /// Behind a `\` in a text.
+    /// After a `\` in a text.
     fn escape(&mut self, byte: u8, text: Text) -> Result<(), AllocError>
         ensures { OnOk result (state_of self.new ≡ machine.in_escape self.old.units.items (text_of text self.old.frames self.old.entry (trees_in self.old) (outs_in self.old)) byte) }
     {
@@ -843,7 +843,7 @@ impl Reader {
         Ok(())
     }
 
-    /// Behind the closing quote of a text.
+    /// After the closing quote of a text.
     fn behind_text(&mut self, text: Text) -> Result<(), AllocError>
         ensures { OnOk result (state_of self.new ≡ machine.behind_text self.old.units.items (text_of text self.old.frames self.old.entry (trees_in self.old) (outs_in self.old))) }
     {
@@ -926,7 +926,7 @@ impl Reader {
         }
     }
 
-    /// Behind the last statement of a block.
+    /// After the last statement of a block.
     fn ended(&mut self, byte: u8) -> Result<(), AllocError>
         ensures { OnOk result (state_of self.new ≡ machine.step (machine.Ended (statements (top (below (trees_in self.old)))) (block (top (trees_in self.old))) (block_of self.old.frames self.old.entry (below (below (trees_in self.old))))) byte) }
     {
@@ -999,7 +999,7 @@ impl Reader {
         Ok(())
     }
 
-    /// Behind the block of a function that is called at once.
+    /// After the block of a function that is called at once.
     fn called(&mut self) -> Result<(), AllocError>
         ensures { OnOk result (state_of self.new ≡ machine.Known (codes ")()") (machine.Have (JBlock (block (top (trees_in self.old)))) (place_of self.old.frames self.old.entry (below (trees_in self.old))))) }
     {
@@ -1008,7 +1008,7 @@ impl Reader {
         Ok(())
     }
 
-    /// Behind an `=` behind the first expression in a bracket.
+    /// After an `=` after the first expression in a bracket.
     fn equals(&mut self, byte: u8) -> Result<(), AllocError>
         ensures { OnOk result (state_of self.new ≡ machine.equals (expression (top (trees_in self.old))) (place_of self.old.frames self.old.entry (below (trees_in self.old))) byte) }
     {
@@ -1022,7 +1022,7 @@ impl Reader {
         }
     }
 
-    /// Behind `=>`.
+    /// After `=>`.
     fn parameter(&mut self) -> Result<(), AllocError>
         ensures { OnOk result (state_of self.new ≡ machine.equals (expression (top (trees_in self.old))) (place_of self.old.frames self.old.entry (below (trees_in self.old))) 62) }
     {
@@ -1079,7 +1079,7 @@ impl Reader {
         }
     }
 
-    /// Behind an outgoing port.
+    /// After an outgoing port.
     #[tactic(auto, using(crate::proofs::Outs::outs_whole))]
     fn out_done(&mut self, byte: u8) -> Result<(), AllocError>
         ensures { OnOk result (state_of self.new ≡ machine.have_out (front_of self.old.entry (below (trees_in self.old))) (members_then (members (top (trees_in self.old))) NoField) self.old.out (outs_in self.old) byte) }
@@ -1097,7 +1097,7 @@ impl Reader {
         self.end_outs()
     }
 
-    /// Behind the outgoing ports.
+    /// After the outgoing ports.
     fn end_outs(&mut self) -> Result<(), AllocError>
         ensures { OnOk result (state_of self.new ≡ machine.end_outs (front_of self.old.entry (below (trees_in self.old))) (members_then (members (top (trees_in self.old))) NoField) self.old.outs.items) }
     {
@@ -1127,7 +1127,7 @@ impl Reader {
         }
     }
 
-    /// Behind bytes that are known.
+    /// After bytes that are known.
     fn go_on(&mut self, after: After)
         ensures { state_of self.new ≡ after_in after self.old }
     {

@@ -11,7 +11,7 @@ use elm_base::position::Pos;
 use js_tree::trees::Trees;
 use std::alloc::Global;
 
-/// The place behind a byte at `place`.
+/// The place after a byte at `place`.
 fn next_place(place: Pos, byte: u8) -> Pos
     requires row { place.row < 4294967295 }
     requires column { place.column < 4294967295 }
@@ -32,7 +32,7 @@ fn next_place(place: Pos, byte: u8) -> Pos
     }
 }
 
-/// The place behind bytes.
+/// The place after bytes.
 #[tactic(auto, using(crate::proofs::Places::next_behind))]
 pub fn place_behind(bytes: &[u8]) -> Pos
     requires { length bytes.now ≤ 67108864 }

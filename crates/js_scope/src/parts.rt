@@ -48,7 +48,7 @@ pub(crate) enum Ending {
     If,
     /// It is a loop of a block.
     While,
-    /// It is a block behind statements.
+    /// It is a block after statements.
     Ended,
 }
 
@@ -163,7 +163,7 @@ pub(crate) fn is_field(node: &Node) -> bool
     }
 }
 
-/// What a node does as a statement behind others.
+/// What a node does as a statement after others.
 pub(crate) fn statement_of(node: &Node) -> Statement<'_>
     ensures uses { (trees : List Tree) → statements_uses (statements (top (apply node.now trees))) ≡ statements_by result trees }
     ensures names { (trees : List Tree) → names_before (statements (top (apply node.now trees))) [] ≡ names_by result trees }

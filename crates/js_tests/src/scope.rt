@@ -115,7 +115,7 @@ fn small_programs(rt: HostRuntime) -> Result<(), Fail> {
         ("Y.S.0.Tx0.S.0.AxC.E.S.S.vxR.E.fyR.E.Q.E.b.0.G.P.", false),
         // the lines of X and 1, of each other, in the decoder of the flags and in that of a port
         ("Y.v1LXvXL10.S.vXR.E.fyG.v1F.P.", true),
-        // a tree that is no program
+        // a tree that is not a program
         ("0.", false),
     ] {
         assert_eq!(rt; bound(alloc, text)?, want, "{text}");

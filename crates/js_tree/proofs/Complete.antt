@@ -61,7 +61,7 @@ digits_from low most begin s one limit first more (suc fuel) n rest l m x = by_s
         along begin (ap (λ (v : List ℕ). v ++ rest) (decimal_step n large (omega (arith, x, limit))) ∙ append_assoc (decimal (n / 10)) ((48 + n % 10) ∷ []) rest)
         ∙ (again large ∙ lead rest (more (n / 10) (48 + n % 10) some digit (below (n / 10 * 10 + (48 + n % 10 - 48)) whole x) ∙ ap s whole))
 
--- behind digits, at a character that ends a word
+-- after digits, at a character that ends a word
 int_ends : (n : ℕ) (k : Place) (rest : List ℕ) → stops rest ≡ true → run (InInt n k) rest ≡ run (Have (JInt (pos n)) k) rest
 int_ends n k [] h = absurd cc
 int_ends n k (c ∷ rest) h = lead rest (ends c h)
@@ -158,7 +158,7 @@ read_units (v ∷ vs) us a rest h =
     ∙ (read_unit v us a (units_text vs ++ 34 ∷ rest) w.0
     ∙ (read_units vs (us ++ v ∷ []) a rest w.1 ∙ lead rest (ap (λ (t : List ℕ). behind_text t a) (append_assoc us (v ∷ []) vs))))
 
--- behind the opening quote
+-- after the opening quote
 pub read_text : (vs : List ℕ) (a : TextAt) (rest : List ℕ) → list_all is_unit vs ≡ true → run (InText [] a) (units_text vs ++ 34 ∷ rest) ≡ run (behind_text vs a) rest
 read_text vs a rest h = read_units vs [] a rest h
 
@@ -239,7 +239,7 @@ letter_runs c h = grind (arith, nat_tests)
 upper_is_letter : (c : ℕ) → is_upper c ≡ true → is_letter c ≡ true
 upper_is_letter c h = rw h refl
 
--- a $ and a letter behind a word of a module
+-- a $ and a letter after a word of a module
 next_word_begins : (m us : List ℕ) (c : ℕ) (a : NameAt) (rest : List ℕ) → begins_upper us ≡ true → is_letter c ≡ true → run (InName (NameWord (Of m) us) a) (36 ∷ c ∷ rest) ≡ run (InName (NameWord (Of (join m us)) (c ∷ [])) a) rest
 next_word_begins m us c a rest b l =
     lead rest (name_goes_on (Dollar (Of m) us) (NameWord (Of (join m us)) (c ∷ [])) a c (letter_runs c l) (rw (letter_no_dollar c l, b, l) refl))

@@ -91,7 +91,7 @@ if_parts c s t rest = simp append_assoc
 while_parts : (s rest : List ℕ) → (codes "while(true){" ++ s ++ codes "}") ++ rest ≡ codes "while(true){" ++ (s ++ 125 ∷ rest)
 while_parts s rest = simp append_assoc
 
--- an operator behind the first part of a bracket
+-- an operator after the first part of a bracket
 read_operator : (op : Operator) (a : Js) (k : Place) (rest : List ℕ) → run (Have a (FirstIn k)) (operator_text op ++ rest) ≡ run (Want (RightOf op a k)) rest
 read_operator Plus a k rest = refl
 read_operator Minus a k rest = refl

@@ -55,7 +55,7 @@ abbrev pub Reads : Begun → List ℕ → Type 0
 Reads NoName f = Unit {0}
 Reads b f = f ≡ begun_text b
 
--- a unit behind a word
+-- a unit after a word
 pub one_unit : (u : ℕ) (t : List ℕ) → name_unit u ≡ t → name_units (u ∷ []) ≡ t
 one_unit u t h = append-nil (name_unit u) ∙ h
 
@@ -64,7 +64,7 @@ word_grows o us t u h =
     append_assoc o (name_units us) t
     ∙ (ap (λ (v : List ℕ). o ++ (name_units us ++ v)) (sym (one_unit u t h)) ∙ ap (λ (v : List ℕ). o ++ v) (sym (name_units-append us (u ∷ []))))
 
--- a digit behind a number
+-- a digit after a number
 pub number_grows : (n c : ℕ) → 0 < n → n < 2 ^ 64 → n * 10 + (c - 48) < 2 ^ 64 → is_digit c ≡ true → decimal n ++ c ∷ [] ≡ decimal (n * 10 + (c - 48))
 number_grows n c some small fits d =
     let bounds : (48 ≤ c) × (c ≤ 57) = grind (arith, nat_tests) in

@@ -10,7 +10,7 @@ owner_text Own = 36 ∷ []
 owner_text (Of []) = []
 owner_text (Of (v ∷ vs)) = name_units (v ∷ vs) ++ 36 ∷ []
 
--- digits of base 16, so many of four to come behind the next
+-- digits of base 16, so many of four to come after the next
 abbrev pub digits_text : ℕ → ℕ → List ℕ
 digits_text zero a = hex_digit (a / 256 % 16) ∷ hex_digit (a / 16 % 16) ∷ hex_digit (a % 16) ∷ []
 digits_text (suc zero) a = hex_digit (a / 16 % 16) ∷ hex_digit (a % 16) ∷ []
@@ -32,7 +32,7 @@ owner_fits Own us = is_word us
 owner_fits (Of []) us = is_word us && begins_upper us
 owner_fits (Of (v ∷ vs)) us = is_module true (v ∷ vs) && is_word us
 
--- so many digits of base 16 of four are to come behind the next, and a unit past the characters of a word can come of them
+-- so many digits of base 16 of four are to come after the next, and a unit past the characters of a word can come of them
 abbrev pub digits_fit : ℕ → ℕ → Bool
 digits_fit n a = nat_le n 3 && (nat_lt a (16 ^ (3 - n)) && nat_le 128 (greatest (suc n) a))
 

@@ -21,7 +21,7 @@ ports_rest = codes "},\"outs\":{" ++ (codes "}};\n" ++ TAIL.now)
 abbrev front_of_line : LinesBefore → List ℕ → Js → Js → Front
 front_of_line before name main flags = record { lines = before; name = name; main = main; flags = flags }
 
--- what may stand behind an expression, and behind the statements of a block, up to the end; 0 and `continue;` are put where something is missing
+-- what may stand after an expression, and after the statements of a block, up to the end; 0 and `continue;` are put where something is missing
 abbrev mutual
   pub place_rest : Place → List ℕ
   place_rest (ArgumentOf f k) = codes ")" ++ place_rest k

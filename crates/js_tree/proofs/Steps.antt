@@ -348,7 +348,7 @@ whole_text g ins outs =
     ∙ (ap (λ (v : List ℕ). lines_before_text g.lines ++ v ++ TAIL.now) (main_parts p)
     ∙ (whole_parts (lines_before_text g.lines) (text_text g.name) (js_text g.main) (js_text g.flags) (fields_text ins) (fields_text (outs_fields outs)) TAIL.now)))
 
--- the known characters that end a text, behind what was read
+-- the known characters that end a text, after what was read
 end_front : (g : Front) (ins : Fields) (outs : List (List ℕ)) (c : ℕ) (f : List ℕ) → nat_eq c 125 ≡ true → f ≡ outs_front g ins ++ fields_text (outs_fields outs) → Next f c (end_outs g ins outs)
 end_front g ins outs c f q h = then_known c 125 (codes "};\n" ++ TAIL.now) h q (whole_text g ins outs)
 

@@ -18,7 +18,7 @@ use Rattle.js_tree.proofs.Steps.{outs_end, whole_text, text_grows, spelled_text}
 use Rattle.js_tree.proofs.StepFits.{two, three, thirds, end_fits, reversed_fit}
 use Rattle.js_tree.proofs.Plugs.{shorter, at_value, at_place, at_block, at_statement}
 
--- behind a name
+-- after a name
 at_name : (x : Name) (a : NameAt) (f : List ℕ) → name_at_fits a ≡ true → is_name x ≡ true → f ≡ name_front a ++ name_text x → Begins f
 at_name x (Variable k) f h p q = at_value k (JVar x) f h p q
 at_name x (ConstAt before b) f h p q = let w = and_true (block_fits b) (before_fits before) h in shorter f (codes "=") (at_place (ConstIn before x b) (f ++ codes "=") (three (block_fits b) (before_fits before) (is_name x) w.0 w.1 p) (rw q refl))
@@ -71,7 +71,7 @@ in_a_name (Dollar o us) a f h b p q = shorter f (codes "$") (at_digits o us 3 0 
 in_a_name (Digits o us n v) a f h b p q = let w = and_true (owner_fits o us) (digits_fit n v) p in at_digits o us n v a f h w.0 w.1 q
 in_a_name NoName a f h b p q = absurd cc
 
--- behind outgoing ports, and behind a text
+-- after outgoing ports, and after a text
 at_outs : (g : Front) (ins : Fields) (o : List ℕ) (outs : List (List ℕ)) (f : List ℕ) → front_fits g ≡ true → fields_spelled ins ≡ true → outs_fit (o ∷ outs) ≡ true → f ≡ outs_front g ins ++ outs_text (o ∷ outs) → Begins f
 at_outs g ins o outs f h p r q = record {
   program = program_of g ins (reversed_onto (o ∷ outs) []);

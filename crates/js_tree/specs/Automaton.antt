@@ -19,9 +19,9 @@ pub record Front : Type 0 where
   pub main : Js
   pub flags : Js
 
--- Where an expression stands, from the inside: the argument of a call; the first in a bracket, or behind an operator, a question mark or a colon in it; a field's
+-- Where an expression stands, from the inside: the argument of a call; the first in a bracket, or after an operator, a question mark or a colon in it; a field's
 -- value; in a list; the argument of a function of the fixed text; in a statement; in a line; in the object of `_main`.
--- Where a block stands: the body of a function; of one called at once; behind if and behind else; in a loop.
+-- Where a block stands: the body of a function; of one called at once; after if and after else; in a loop.
 mutual
   pub data Place : Type 0 where
     ArgumentOf : Js → Place → Place
@@ -54,7 +54,7 @@ pub data ObjectAt : Type 0 where
   Value : Place → ObjectAt
   Ports : Front → ObjectAt
 
--- what a text is: an expression; a field's name; the name behind [; the module's name; the name of an outgoing port
+-- what a text is: an expression; a field's name; the name after [; the module's name; the name of an outgoing port
 pub data TextAt : Type 0 where
   Literal : Place → TextAt
   Key : Members → ObjectAt → TextAt
@@ -70,9 +70,9 @@ pub data NameAt : Type 0 where
   AssignAt : Before → Block → NameAt
   LineAt : LinesBefore → NameAt
 
--- Where the reader is: before an expression, and behind one; in a name, a number, a negative number (behind its -, and behind a digit), a
--- text, an escape of one, its digits; in a word; before a name; before a field; before a statement, in the word of one, and behind the last
--- of a block; behind an = that is part of => or ===; before a line, and a line's name; before an outgoing port, and behind one; before
+-- Where the reader is: before an expression, and after one; in a name, a number, a negative number (after its -, and after a digit), a
+-- text, an escape of one, its digits; in a word; before a name; before a field; before a statement, in the word of one, and after the last
+-- of a block; after an = that is part of => or ===; before a line, and a line's name; before an outgoing port, and after one; before
 -- characters that are known; at the end. Outs are in reverse order.
 pub data State : Type 0 where
   Want : Place → State
@@ -129,7 +129,7 @@ words = TrueWord ∷ FalseWord ∷ ListWord ∷ map_helpers helpers
 abbrev pub begin_statement_words : List (List ℕ)
 begin_statement_words = codes "const " ∷ codes "let " ∷ codes "return " ∷ codes "if(" ∷ codes "while(true){" ∷ codes "continue;" ∷ []
 
--- behind such a word
+-- after such a word
 abbrev pub behind_word : Word → Place → State
 behind_word TrueWord k = Have (JBool true) k
 behind_word FalseWord k = Have (JBool false) k
@@ -164,7 +164,7 @@ abbrev pub known : List ℕ → State → State
 known [] s = s
 known (c ∷ cs) s = Known (c ∷ cs) s
 
--- where a block has ended: behind its }
+-- where a block has ended: after its }
 abbrev pub close_block : Stmts → Block → State
 close_block s (BodyOf p k) = Known (codes ")") (Have (JArrow p s) k)
 close_block s (CalledIn k) = Known (codes ")()") (Have (JBlock s) k)
@@ -188,7 +188,7 @@ program_of f ins outs = record { lines = lines_then f.lines NoLine; main = f.mai
 abbrev pub on_bracket : ℕ → State → State
 on_bracket c s = if c == 41 then s else Dead
 
--- behind an expression that neither a call nor a property follows
+-- after an expression that neither a call nor a property follows
 abbrev pub close : Place → Js → ℕ → State
 close (ArgumentOf f k) e c = on_bracket c (Have (JCall f e) k)
 close (FirstIn k) e c = operator_at c e k
@@ -217,7 +217,7 @@ close (PortIn f before key) e c =
 abbrev pub have : Js → Place → ℕ → State
 have e k c = if c == 40 then Want (ArgumentOf e k) else (if c == 91 then Known (codes "\"") (InText [] (PropertyOf e k)) else close k e c)
 
--- behind (( : the ) of a function without parameter
+-- after (( : the ) of a function without parameter
 abbrev pub no_parameter : Place → ℕ → State
 no_parameter (FirstIn k) c = if c == 41 then Known (codes "=>{") (WantStatement NoStatement (CalledIn k)) else Dead
 no_parameter _ c = Dead
@@ -253,7 +253,7 @@ want k c =
     else (if c == 95 || (c == 116 || c == 102) then in_word (c ∷ []) k
     else no_expression k c)))))
 
--- behind a name, at the character that ends it
+-- after a name, at the character that ends it
 abbrev pub behind_name : Name → NameAt → ℕ → State
 behind_name x (Variable k) c = have (JVar x) k c
 behind_name x (ConstAt before b) c = if c == 61 then Want (ConstIn before x b) else Dead
@@ -274,7 +274,7 @@ in_int n k c = if is_digit c then (if n == 0 then Dead else int_at (n * 10 + (c 
 abbrev pub in_negative : ℕ → Place → ℕ → State
 in_negative n k c = if is_digit c then negative_at (n * 10 + (c - 48)) k else on_bracket c (Have (JInt (minus n)) k)
 
--- behind the closing quote of a text
+-- after the closing quote of a text
 abbrev pub behind_text : List ℕ → TextAt → State
 behind_text us (Literal k) = Have (JText us) k
 behind_text us (Key before (Value k)) = Known (codes ":") (Want (FieldIn before us k))
@@ -314,7 +314,7 @@ want_field before a c = if c == 34 then InText [] (Key before a) else (if c == 1
 abbrev pub want_statement : Before → Block → ℕ → State
 want_statement before b c = if c == 36 || is_upper c then name_at (begin_name c) (AssignAt before b) else in_keyword (c ∷ []) before b
 
--- behind an = in a bracket: of => where its part before is a name, or of ===
+-- after an = in a bracket: of => where its part before is a name, or of ===
 abbrev pub equals : Js → Place → ℕ → State
 equals (JVar p) k c =
     if c == 62 then Known (codes "{") (WantStatement NoStatement (BodyOf p k)) else (if c == 61 then Known (codes "=") (Want (RightOf StrictEquals (JVar p) k)) else Dead)

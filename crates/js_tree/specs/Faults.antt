@@ -20,7 +20,7 @@ pub record Place : Type 0 where
 abbrev pub next_place : ℕ → Place → Place
 next_place c p = if c == 10 then record { row = p.row + 1; column = 1 } else record { row = p.row; column = p.column + 1 }
 
--- the place behind the bytes, from that before them; the bytes that begin a text are all of ASCII, a code point each
+-- the place after the bytes, from that before them; the bytes that begin a text are all of ASCII, a code point each
 abbrev pub place_behind : Place → List ℕ → Place
 place_behind p [] = p
 place_behind p (c ∷ cs) = place_behind (next_place c p) cs

@@ -10,7 +10,7 @@ pub data Owner : Type 0 where
   Of : List ℕ → Owner
 
 -- What has been read of a name: $; $$; $$ and a number; a word; a word and $; a word, $$ and digits of base 16, so many of which are to come
--- behind the next, with the number that they are; something that begins no name.
+-- after the next, with the number that they are; something that begins no name.
 pub data Begun : Type 0 where
   OneDollar : Begun
   TwoDollars : Begun
@@ -39,7 +39,7 @@ abbrev pub begins_upper : List ℕ → Bool
 begins_upper [] = false
 begins_upper (u ∷ us) = is_upper u
 
--- a word behind those before it
+-- a word after those before it
 abbrev pub join : List ℕ → List ℕ → List ℕ
 join [] us = us
 join (v ∷ vs) us = (v ∷ vs) ++ 46 ∷ us
@@ -50,7 +50,7 @@ begin_name c = if c == 36 then OneDollar else (if is_upper c then NameWord (Of [
 abbrev pub numbered : ℕ → Begun
 numbered n = if nat_lt n (2 ^ 64) then Numbered n else NoName
 
--- a letter behind a word and $ begins the next word
+-- a letter after a word and $ begins the next word
 abbrev pub next_word : Owner → List ℕ → ℕ → Begun
 next_word Own us c = NoName
 next_word (Of m) us c = if begins_upper us && is_letter c then NameWord (Of (join m us)) (c ∷ []) else NoName

@@ -1,5 +1,5 @@
 -- JsText: which bytes are the text of a program. (ECMA-262: 12.7 names, 12.9.3 numbers, 12.9.4 texts; each construct in one spelling, without
--- blanks but those behind const, let and return.) It is the fixed front, a line for each constant, the line of `_main`, and the fixed end.
+-- blanks but those after const, let and return.) It is the fixed front, a line for each constant, the line of `_main`, and the fixed end.
 use Rattle.std.specs.Prelude.{◌≡◌, ℕ, suc, ℤ, pos, negsuc, ◌+◌, ◌/◌, ◌%◌, List, [], ◌∷◌, ◌++◌, Bool, true, false, if◌then◌else◌, ◌&&◌, ◌||◌, ◌==◌, nat_le, nat_lt, codes, decimal}
 pub use Rattle.elm_base.specs.Quoted.{hex_digit, hex4, unit_text, units_text, text_text}
 use Rattle.js_tree.specs.declared.runtime.TheConstants.{HEAD, TAIL}

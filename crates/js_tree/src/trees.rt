@@ -1,4 +1,4 @@
-//! Trees of an output, one behind the other.
+//! Trees of an output, one after the other.
 
 ghost use Rattle.std.specs.Prelude.{◌≡◌, ◌≤◌, ◌<◌, ◌-◌, ℕ, List, [], ◌∷◌, ◌++◌, IfOk, IfSome, IfNone, OnOk, OnErr, length, take, get_or};
 ghost use Rattle.js_tree.specs.Postorder.{apply, arity, below, below_times, build, trees_at};
@@ -42,14 +42,14 @@ impl Trees {
         }
     }
 
-    /// The number of nodes, which is the place behind the last tree.
+    /// The number of nodes, which is the place after the last tree.
     pub fn len(&self) -> usize
         ensures { result ≡ length self.now }
     {
         self.nodes.len()
     }
 
-    /// Adds a node. The error is want of memory, and then the trees are as before.
+    /// Adds a node. The error means that memory ran out, and then the trees are as before.
     pub fn push(&mut self, node: Node) -> Result<(), AllocError>
         ensures ok { OnOk result (self.new ≡ self.old ++ node ∷ []) }
         ensures trees { OnOk result (build self.new ≡ apply node (build self.old)) }

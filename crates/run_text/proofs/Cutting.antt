@@ -10,7 +10,7 @@ use Rattle.run_text.specs.Lines.{halves_of}
 abbrev feed_in : List ℕ → ℕ
 feed_in text = position_or_len (λ b. b == 10) text
 
--- a text with a line feed is its first line, and the lines behind
+-- a text with a line feed is its first line, and the lines after
 lines_cut : (text : List ℕ) → feed_in text < length text → lines_of text ≡ take (feed_in text) text ∷ lines_of (drop (feed_in text + 1) text)
 lines_cut [] h = absurd (let bad : ⊥ = omega arith in bad)
 lines_cut (b ∷ bs) h =

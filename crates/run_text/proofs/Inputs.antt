@@ -1,4 +1,4 @@
--- What a line gives, and lines one behind the other.
+-- What a line gives, and lines one after the other.
 use Rattle.std.proofs.Common.{◌≡◌, ℕ, ◌+◌, Bool, true, false, ◌&&◌, List, [], ◌∷◌, ◌++◌, Option, Some, None, option_map, if◌then◌else◌, refl, sym, ap, ◌∙◌, subst, ◌<◌, length, arith}
 use Rattle.std.specs.List.{list_any}
 use Rattle.std.specs.Str.{is_utf8, IsUtf8}
@@ -52,7 +52,7 @@ good_input line port json w e u l r =
     ∙ ap (λ t. if t then option_map (λ value. (text_units port, value)) (from_bytes json) else None) (is_utf8-from_IsUtf8 port u)
     ∙ ap (λ found. option_map (λ value. (text_units port, value)) found) (sym r))
 
--- ---- lines one behind the other
+-- ---- lines one after the other
 
 pub before_push : (done : List Input) (input : Input) (behind : Given) → inputs_before (done ++ input ∷ []) behind ≡ inputs_before done (more_input input behind)
 before_push [] input behind = refl

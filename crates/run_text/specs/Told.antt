@@ -4,7 +4,7 @@ use Rattle.std.specs.Prelude.{ℕ, List, [], ◌∷◌, ◌++◌, Bool, true, fa
 use Rattle.std.specs.Char.Utf16.{utf16_lossy_chars}
 use Rattle.wire_value.specs.Wire.{Wire}
 use Rattle.wire_json.specs.Text.{wire_text, text_text}
-use Rattle.runs.specs.Trace.{Event, Sent, TurnedAway, Last, Ready, FlagsRefused, Crash, NoFuel, NotSafe, NoRule, Trace, Ends, Then}
+use Rattle.runs.specs.Trace.{Event, Sent, TurnedAway, Last, Ready, FlagsRefused, Crashed, OutOfFuel, Unsafe, Stuck, Trace, Ends, Then}
 
 -- the name of a port in UTF-8, with U+FFFD for a lone surrogate, as an engine prints it (WHATWG Encoding, 8.2, UTF-8
 -- encode)
@@ -26,10 +26,10 @@ event_line (TurnedAway port) = refused_line port
 abbrev pub last_line : Last → List ℕ
 last_line Ready = []
 last_line FlagsRefused = codes "! refused flags\n"
-last_line (Crash text) = codes "! crash " ++ text_text text ++ codes "\n"
-last_line NoFuel = codes "! out of fuel\n"
-last_line NotSafe = codes "! unsafe\n"
-last_line NoRule = codes "! stuck\n"
+last_line (Crashed text) = codes "! crash " ++ text_text text ++ codes "\n"
+last_line OutOfFuel = codes "! out of fuel\n"
+last_line Unsafe = codes "! unsafe\n"
+last_line Stuck = codes "! stuck\n"
 
 abbrev pub told_text : Trace → List ℕ
 told_text (Ends last) = last_line last

@@ -1,7 +1,7 @@
 //! The lines that a run prints.
 
 ghost use Rattle.std.specs.Prelude.{◌≡◌, ◌++◌, IfOk, OnOk, map};
-ghost use Rattle.runs.specs.Trace.{FlagsRefused, Crash, NoFuel, NotSafe, NoRule};
+ghost use Rattle.runs.specs.Trace.{FlagsRefused, Crashed, OutOfFuel, Unsafe, Stuck};
 ghost use Rattle.wire_value.specs.View.{wire_view};
 ghost use Rattle.run_text.specs.Told.{send_line, refused_line, last_line, port_text};
 
@@ -53,7 +53,7 @@ pub fn put_flags_refused(out: &mut Vec<u8>) -> Result<(), AllocError>
 
 /// Adds the line of a crash with this text.
 pub fn put_crash(out: &mut Vec<u8>, text: &[u16]) -> Result<(), AllocError>
-    ensures { OnOk result (out.new.items ≡ out.old.items ++ last_line (Crash text.now)) }
+    ensures { OnOk result (out.new.items ≡ out.old.items ++ last_line (Crashed text.now)) }
 {
     out.extend_from_slice(b"! crash ")?;
     put_text(out, text)?;
@@ -63,21 +63,21 @@ pub fn put_crash(out: &mut Vec<u8>, text: &[u16]) -> Result<(), AllocError>
 
 /// Adds the line of a run that ran out of fuel.
 pub fn put_out_of_fuel(out: &mut Vec<u8>) -> Result<(), AllocError>
-    ensures { OnOk result (out.new.items ≡ out.old.items ++ last_line NoFuel) }
+    ensures { OnOk result (out.new.items ≡ out.old.items ++ last_line OutOfFuel) }
 {
     out.extend_from_slice(b"! out of fuel\n")
 }
 
 /// Adds the line of a run that met a number that is not exact.
 pub fn put_unsafe(out: &mut Vec<u8>) -> Result<(), AllocError>
-    ensures { OnOk result (out.new.items ≡ out.old.items ++ last_line NotSafe) }
+    ensures { OnOk result (out.new.items ≡ out.old.items ++ last_line Unsafe) }
 {
     out.extend_from_slice(b"! unsafe\n")
 }
 
 /// Adds the line of a run that got stuck: no rule applies.
 pub fn put_stuck(out: &mut Vec<u8>) -> Result<(), AllocError>
-    ensures { OnOk result (out.new.items ≡ out.old.items ++ last_line NoRule) }
+    ensures { OnOk result (out.new.items ≡ out.old.items ++ last_line Stuck) }
 {
     out.extend_from_slice(b"! stuck\n")
 }

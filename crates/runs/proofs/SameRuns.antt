@@ -1,8 +1,8 @@
 -- Two machines whose steps follow each other have the same runs, at all inputs.
 use Rattle.std.proofs.Common.{◌≡◌, ℕ, zero, suc, ◌+◌, ◌≤◌, List, [], ◌∷◌, ◌⊎◌, inl, inr, refl, sym, ◌∙◌, subst, arith}
 use Rattle.wire_value.specs.Wire.{Wire}
-use Rattle.runs.specs.Ends.{End, Metered, MVal, MCrashed, MOut, with_budget}
-use Rattle.runs.specs.Trace.{Crash, NoFuel, Trace, Ends, Covers, cut_off, same_last, same_event, SameRun, IsClaimed, send_all}
+use Rattle.runs.specs.Ends.{End, Metered, MVal, MCrashed, MOutOfFuel, with_budget}
+use Rattle.runs.specs.Trace.{Crashed, OutOfFuel, Trace, Ends, Covers, cut_off, same_last, same_event, SameRun, IsClaimed, send_all}
 use Rattle.runs.specs.Driver.{Stage, Start, Heard, Machine, go_on, at_stage, deliver, take_in, drive, begin, run, Nested, metered}
 use Rattle.runs.specs.Pay.{pay, Run, Spends, Follows, gives, crashes, starves, unclaimed_unsafe, unclaimed_stuck}
 use Rattle.runs.specs.Alike.{AllAlike, none_alike, more_alike, StageAlike, at_alike, StartAlike, wrong_flags, started, HeardAlike, wrong_input, heard_by, IsAlike}
@@ -14,12 +14,12 @@ pay_left (suc c) zero t le = absurd (omega arith)
 pay_left (suc c) (suc m) t le = let e = pay_left c m t (omega arith) in (e.0, omega arith, e.2)
 
 -- any budget: it is enough, with no more than it left, or runs out
-pay_left_or_out : {A : Type 0} (c m : ℕ) (t : ℕ → Metered A) → (pay c m t ≡ MOut) ⊎ ((r : ℕ) × (r ≤ m) × (pay c m t ≡ t r))
+pay_left_or_out : {A : Type 0} (c m : ℕ) (t : ℕ → Metered A) → (pay c m t ≡ MOutOfFuel) ⊎ ((r : ℕ) × (r ≤ m) × (pay c m t ≡ t r))
 pay_left_or_out zero m t = inr (m, omega arith, refl)
 pay_left_or_out (suc c) zero t = inl refl
 pay_left_or_out {A} (suc c) (suc m) t = go (pay_left_or_out c m t)
   where
-    go : (pay c m t ≡ MOut) ⊎ ((r : ℕ) × (r ≤ m) × (pay c m t ≡ t r)) → (pay c m t ≡ MOut) ⊎ ((r : ℕ) × (r ≤ suc m) × (pay c m t ≡ t r))
+    go : (pay c m t ≡ MOutOfFuel) ⊎ ((r : ℕ) × (r ≤ m) × (pay c m t ≡ t r)) → (pay c m t ≡ MOutOfFuel) ⊎ ((r : ℕ) × (r ≤ suc m) × (pay c m t ≡ t r))
     go (inl e) = inl e
     go (inr e) = inr (e.0, omega arith, e.2)
 
@@ -40,7 +40,7 @@ covers_sent {sends} {a = a} {b = b} e c = subst (λ l. Covers (send_all sends a)
 abbrev Soon : Trace → (ℕ → ℕ → Trace) → Type 0
 Soon a b = (c : ℕ) × ((m r : ℕ) → c ≤ r → r ≤ m → Covers a (b m r))
 
--- behind a stretch
+-- after a stretch
 soon_behind : {B : Type 0} {f : Run B} (l : ℕ → B → ℕ → Trace) (a : Trace) (t : ℕ → Metered B) → Spends f (λ _ m. t m) → Soon a (λ m r. go_on (t r) (l m)) → Soon a (λ m r. go_on (f m r) (l m))
 soon_behind l a t p s = (
   p.cost + s.0,
@@ -49,32 +49,32 @@ soon_behind l a t p s = (
       subst (λ o. Covers a (go_on o (l m))) (sym (p.by m r within ∙ e.2)) (s.1 m e.0 (omega arith) (omega arith)),
 )
 
--- one step, and what comes of its value
+-- one step, and what follows from its value
 soon_on : {A B : Type 0} {S : A → B → Type 0} {n : ℕ} {o : End A} {f : Run B} (left : ℕ) (k : A → ℕ → Trace) (l : ℕ → B → ℕ → Trace) → Follows S n o f → IsClaimed (go_on (with_budget o left) k) → ((a : A) (b : B) → S a b → IsClaimed (k a left) → Soon (k a left) (λ m r. l m b r)) → Soon (go_on (with_budget o left) k) (λ m r. go_on (f m r) (l m))
 soon_on left k l (gives {a} b s p) claimed more = soon_behind l (k a left) (λ m. MVal b m) p (more a b s claimed)
-soon_on left k l (crashes {t} p) claimed more = soon_behind l (Ends (Crash t)) (λ _. MCrashed t) p (zero, λ m r enough within. same_last)
+soon_on left k l (crashes {t} p) claimed more = soon_behind l (Ends (Crashed t)) (λ _. MCrashed t) p (zero, λ m r enough within. same_last)
 soon_on left k l (starves h) claimed more = (zero, λ m r enough within. cut_off)
 soon_on left k l unclaimed_unsafe claimed more = absurd claimed
 soon_on left k l unclaimed_stuck claimed more = absurd claimed
 
--- the other way behind a stretch, with as much fuel
+-- the other way after a stretch, with as much fuel
 back_behind : {B : Type 0} {f : Run B} (l : B → ℕ → Trace) (a : Trace) (t : ℕ → Metered B) (m r : ℕ) → r ≤ m → Spends f (λ _ m. t m) → ((r' : ℕ) → r' ≤ m → Covers (go_on (t r') l) a) → Covers (go_on (f m r) l) a
 back_behind l a t m r within p covers = subst (λ o. Covers (go_on o l) a) (sym (p.by m r within)) (go (pay_left_or_out p.cost r t))
   where
-    go : (pay p.cost r t ≡ MOut) ⊎ ((r' : ℕ) × (r' ≤ r) × (pay p.cost r t ≡ t r')) → Covers (go_on (pay p.cost r t) l) a
+    go : (pay p.cost r t ≡ MOutOfFuel) ⊎ ((r' : ℕ) × (r' ≤ r) × (pay p.cost r t ≡ t r')) → Covers (go_on (pay p.cost r t) l) a
     go (inl e) = subst (λ o. Covers (go_on o l) a) (sym e) cut_off
     go (inr e) = subst (λ o. Covers (go_on o l) a) (sym e.2) (covers e.0 (omega arith))
 
--- one step the other way, and what comes of its value
+-- one step the other way, and what follows from its value
 back_on : {A B : Type 0} {S : A → B → Type 0} {m : ℕ} {o : End A} {f : Run B} (left r : ℕ) (k : A → ℕ → Trace) (l : B → ℕ → Trace) → r ≤ m → Follows S m o f → IsClaimed (go_on (with_budget o left) k) → ((a : A) (b : B) (r' : ℕ) → r' ≤ m → S a b → IsClaimed (k a left) → Covers (l b r') (k a left)) → Covers (go_on (f m r) l) (go_on (with_budget o left) k)
 back_on {m} left r k l within (gives {a} b s p) claimed more = back_behind l (k a left) (λ m. MVal b m) m r within p (λ r' le. more a b r' le s claimed)
-back_on {m} left r k l within (crashes {t} p) claimed more = back_behind l (Ends (Crash t)) (λ _. MCrashed t) m r within p (λ r' le. same_last)
-back_on {m} left r k l within (starves h) claimed more = subst (λ o. Covers (go_on o l) (Ends NoFuel)) (sym (h m r within within)) cut_off
+back_on {m} left r k l within (crashes {t} p) claimed more = back_behind l (Ends (Crashed t)) (λ _. MCrashed t) m r within p (λ r' le. same_last)
+back_on {m} left r k l within (starves h) claimed more = subst (λ o. Covers (go_on o l) (Ends OutOfFuel)) (sym (h m r within within)) cut_off
 back_on left r k l within unclaimed_unsafe claimed more = absurd claimed
 back_on left r k l within unclaimed_stuck claimed more = absurd claimed
 
 module _ {V W : Type 0} (P R : V → W → Type 0) (nested : Nested V) (machine : Machine W) (alike : IsAlike P R nested machine) where
-  -- what is sent at a stage, and what comes of its model
+  -- what is sent at a stage, and what follows from its model
   soon_stage : (n : ℕ) {s : Stage V} {t : Stage W} (k : V → Trace) (l : ℕ → ℕ → W → Trace) → StageAlike R s t → IsClaimed (at_stage (metered nested) n s k) → ((v : V) (w : W) → R v w → IsClaimed (k v) → Soon (k v) (λ m r. l m r w)) → Soon (at_stage (metered nested) n s k) (λ m r. at_stage machine m t (l m r))
   soon_stage n k l (at_alike {v} {w} {sends} s e) claimed more =
       let next = more v w s (claimed_after sends (k v) claimed) in

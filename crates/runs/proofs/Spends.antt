@@ -1,6 +1,6 @@
--- Stretches of metered runs, and how a metered run follows a nested one: one after the other, and behind a call.
+-- Stretches of metered runs, and how a metered run follows a nested one: one after the other, and after a call.
 use Rattle.std.proofs.Common.{◌≡◌, ℕ, zero, suc, ◌≤◌, ◌⊎◌, inl, inr, refl, ap, ◌∙◌, arith}
-use Rattle.runs.specs.Ends.{End, Val, Crashed, OutOfFuel, Unsafe, Stuck, then_do, Metered, MVal, MCrashed, MOut, and_then, with_budget}
+use Rattle.runs.specs.Ends.{End, Val, Crashed, OutOfFuel, Unsafe, Stuck, then_do, Metered, MVal, MCrashed, MOutOfFuel, and_then, with_budget}
 use Rattle.runs.specs.Pay.{pay, Run, Spends, Follows, gives, crashes, starves, unclaimed_unsafe, unclaimed_stuck}
 
 -- what comes after a payment is paid for as well
@@ -16,7 +16,7 @@ pay_same (suc c) zero f g h = refl
 pay_same (suc c) (suc m) f g h = pay_same c m f g (λ k le. h k (omega arith))
 
 -- what runs out at each budget that may be left runs out
-pub pay_out : {A : Type 0} (c m : ℕ) (f : ℕ → Metered A) → ((k : ℕ) → k ≤ m → f k ≡ MOut) → pay c m f ≡ MOut
+pub pay_out : {A : Type 0} (c m : ℕ) (f : ℕ → Metered A) → ((k : ℕ) → k ≤ m → f k ≡ MOutOfFuel) → pay c m f ≡ MOutOfFuel
 pay_out zero m f h = h m (omega arith)
 pay_out (suc c) zero f h = refl
 pay_out (suc c) (suc m) f h = pay_out c m f (λ k le. h k (omega arith))
@@ -38,7 +38,7 @@ pay_enough (suc c) zero t le = absurd (omega arith)
 pay_enough (suc c) (suc m) t le = pay_enough c m t (omega arith)
 
 -- any budget: it is enough, or runs out
-pub pay_or_out : {A : Type 0} (c m : ℕ) (t : ℕ → Metered A) → (pay c m t ≡ MOut) ⊎ ((r : ℕ) × (pay c m t ≡ t r))
+pub pay_or_out : {A : Type 0} (c m : ℕ) (t : ℕ → Metered A) → (pay c m t ≡ MOutOfFuel) ⊎ ((r : ℕ) × (pay c m t ≡ t r))
 pay_or_out zero m t = inr (m, refl)
 pay_or_out (suc c) zero t = inl refl
 pay_or_out (suc c) (suc m) t = pay_or_out c m t
@@ -56,7 +56,7 @@ spends_on {A} {f} {g} {h} p q =
       by = λ b m le. p.by b m le ∙ pay_same p.cost m (g b) (λ k. pay q.cost k (h b)) (λ k l. q.by b k (omega arith)) ∙ r.1 m (h b);
     }
 
--- a stretch, with what comes of the value
+-- a stretch, with what follows from the value
 pub spends_then : {A B : Type 0} {f g : Run A} (h : ℕ → A → ℕ → Metered B) → Spends f g → Spends (λ b m. and_then (f b m) (h b)) (λ b m. and_then (g b m) (h b))
 spends_then {f} {g} h p = record {
   cost = p.cost;
@@ -67,13 +67,13 @@ spends_then {f} {g} h p = record {
 pub spends_same : {A : Type 0} {f g : Run A} → ((b m : ℕ) → f b m ≡ g b m) → Spends f g
 spends_same h = record { cost = zero; by = λ b m le. h b m }
 
--- a run behind one call, which takes one unit
+-- a run after one call, which takes one unit
 abbrev pub behind : {A : Type 0} → Run A → Run A
-behind f zero m = MOut
-behind f (suc b) zero = MOut
+behind f zero m = MOutOfFuel
+behind f (suc b) zero = MOutOfFuel
 behind f (suc b) (suc m) = f b m
 
--- a run that goes on as one that does not ask for the bound: behind a call it costs one unit more
+-- a run that goes on as one that does not ask for the bound: after a call it costs one unit more
 pub spends_call : {A : Type 0} {f : Run A} (t : ℕ → Metered A) → Spends f (λ _ m. t m) → Spends (behind f) (λ _ m. t m)
 spends_call {A} {f} t p = record { cost = suc p.cost; by = go }
   where
@@ -91,7 +91,7 @@ follows_after p (starves h) = starves (λ b m le ln. p.by b m le ∙ pay_out p.c
 follows_after p unclaimed_unsafe = unclaimed_unsafe
 follows_after p unclaimed_stuck = unclaimed_stuck
 
--- one run and what comes of its value
+-- one run and what follows from its value
 pub follows_then : {A B C D : Type 0} {R : A → B → Type 0} {S : C → D → Type 0} {n : ℕ} {o : End A} {f : Run B} (go : A → End C) (h : ℕ → B → ℕ → Metered D) → Follows R n o f → ((a : A) (b : B) → R a b → Follows S n (go a) (λ c. h c b)) → Follows S n (then_do o go) (λ b m. and_then (f b m) (h b))
 follows_then go h (gives {a} b r p) next = follows_after (spends_then h p) (next a b r)
 follows_then go h (crashes p) next = crashes (spends_then h p)
@@ -99,13 +99,13 @@ follows_then go h (starves q) next = starves (λ b m le ln. ap (λ o. and_then o
 follows_then go h unclaimed_unsafe next = unclaimed_unsafe
 follows_then go h unclaimed_stuck next = unclaimed_stuck
 
--- behind a call, whose body has one unit of fuel less
+-- after a call, whose body has one unit of fuel less
 pub follows_behind : {A B : Type 0} {R : A → B → Type 0} {n : ℕ} {o : End A} {f : Run B} → Follows R n o f → Follows R (suc n) o (behind f)
 follows_behind (gives b r p) = gives b r (spends_call (λ m. MVal b m) p)
 follows_behind (crashes {t} p) = crashes (spends_call (λ _. MCrashed t) p)
 follows_behind {n} (starves {f} h) = starves go
   where
-    go : (b m : ℕ) → m ≤ b → m ≤ suc n → behind f b m ≡ MOut
+    go : (b m : ℕ) → m ≤ b → m ≤ suc n → behind f b m ≡ MOutOfFuel
     go zero m le ln = refl
     go (suc b) zero le ln = refl
     go (suc b) (suc m) le ln = h b m (omega arith) (omega arith)

@@ -4,7 +4,7 @@
 ghost use Rattle.std.specs.Prelude.{◌≡◌, ℕ};
 ghost use Rattle.runs.specs.Trace.{Trace, Covers, SameRun, IsCutOff};
 
-/// The laws of the comparison of runs: it is an equivalence, and a run that is not cut off for want of fuel is done by
+/// The laws of the comparison of runs: it is an equivalence, and a run that is not cut off by its fuel is done by
 /// the other one too, event by event.
 pub fn same_run_laws()
     ensures reflexive { (f : ℕ → Trace) → SameRun f f }

@@ -28,7 +28,7 @@ pub entries_view-insert : (es : List Entry) (k : List ℕ) (w : program.Wire) �
 entries_view-insert [] k w = refl
 entries_view-insert (e ∷ es) k w = entries_view-match (slice_cmp nat_cmp k e.0) _ _ _ ∙ rw (entries_view-insert es k w) refl
 
--- items behind those that are done
+-- items after those that are done
 abbrev pub onto : List Wire → wire.Wires → wire.Wires
 onto [] ws = ws
 onto (w ∷ done) ws = wire.more_wires w (onto done ws)

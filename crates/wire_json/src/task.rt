@@ -7,8 +7,8 @@ use wire_value::{Member, Wire};
 pub enum Task<'a> {
     /// A value.
     Value(&'a Wire),
-    /// Items behind another one, and the end of the list.
+    /// Items after another one, and the end of the list.
     Items(&'a [Wire]),
-    /// Members behind another one, and the end of the object.
+    /// Members after another one, and the end of the object.
     Members(&'a [Member]),
 }

@@ -9,7 +9,7 @@ use Rattle.elm_make.proofs.Joins.{is_nil, turned}
 use Rattle.elm_make.proofs.paths.normal.Goals as goal
 use Rattle.elm_make.proofs.paths.normal.Goals.{then-not-is_first+in_ok-push_str, else-not-is_first}
 
--- what stands before the part: what was joined, with a slash behind it unless nothing was kept yet
+-- what stands before the part: what was joined, with a slash after it unless nothing was kept yet
 before_part : (text joined before : List ℕ) (nothing : Bool) → text ≡ joined → (nothing ≡ true → joined ≡ []) → ((nothing ≡ true) × (before ≡ text)) ⊎ ((nothing ≡ false) × (before ≡ text ++ 47 ∷ [])) → before ≡ (if nothing then [] else joined ++ 47 ∷ [])
 before_part text joined before true t e (inl b) = b.1 ∙ t ∙ e refl
 before_part text joined before true t e (inr b) = absurd (cc)
