@@ -1,7 +1,10 @@
 pub mod Characters
+pub mod Numbers
 pub mod Pieces
 pub mod Kinds
+pub mod Literals
 pub mod Gaps
+pub mod Firsts
 pub mod Tokens
 pub mod View
 pub mod Lengths
