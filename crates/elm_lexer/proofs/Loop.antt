@@ -1,5 +1,5 @@
 -- The loop over a text: what was found, and then what the rest has, is what the text has.
-use Rattle.std.proofs.Common.{◌≡◌, ℕ, suc, zero, ◌-◌, ◌<◌, ◌≤◌, List, [], ◌∷◌, ◌++◌, length, take, drop, map, Bool, true, false, Option, Some, None, sym, refl, ap, subst, ◌∙◌, arith, append_assoc, append-nil, length-append}
+use Rattle.std.proofs.Common.{◌≡◌, ℕ, ◌-◌, ◌<◌, List, [], ◌∷◌, ◌++◌, length, take, drop, map, Bool, true, false, Option, None, sym, refl, ap, subst, ◌∙◌, arith, append_assoc, append-nil, length-append}
 use Rattle.std.proofs.Common.{◌==◌}
 use Rattle.std.proofs.lemmas.Bool.Decides.{nat_tests}
 use Rattle.std.specs.Str.{IsUtf8, IsCharBoundary}
@@ -11,12 +11,11 @@ use Rattle.elm_lexer.specs.declared.first.First.{First}
 use Rattle.elm_lexer.specs.declared.first.First.TheVariants as first
 use Rattle.elm_lexer.specs.Firsts.{IsFirst, first_in}
 use Rattle.elm_lexer.specs.Gaps.{begins_gap, IsGap}
-use Rattle.elm_lexer.specs.Tokens.{Place, Token, Fault, Tokens, behind, token_at, fault_at, Reads, no_more, open_comment, token, first_place, HasFault, ends}
+use Rattle.elm_lexer.specs.Tokens.{Place, Token, Fault, behind, token_at, fault_at, Reads, no_more, open_comment, token, first_place, HasFault, not_utf8, ends}
 use Rattle.elm_lexer.proofs.Basics.{front_of}
 use Rattle.elm_lexer.proofs.Blocks.{gap_end}
 use Rattle.elm_lexer.proofs.Starts.{first_is, token_cut}
 use Rattle.elm_lexer.proofs.Texts.{gap_text}
-use Rattle.elm_lexer.proofs.Same.{same_tokens}
 use Rattle.elm_lexer.proofs.Steps.{gap_whole, fault_whole}
 
 -- the tokens of the text are those found and then those of the rest, and it ends as the rest does
@@ -65,6 +64,17 @@ open_found text found p touched t f u h b never e = subst (λ x. HasFault text x
 
 pub fault_found : (text : List ℕ) (found : List Token) (p : Place) (touched : Bool) (t : List ℕ) (c : Code) (before detail : ℕ) (f : Fault) → IsUtf8 text → Cuts text found p touched t → begins_gap t ≡ false → 0 < length t → IsFirst t (first.Fault c before detail) → f ≡ fault_at p t c before detail → HasFault text f
 fault_found text found p touched t c before detail f u h b some i e = subst (λ x. HasFault text x) (sym e) (ends (found ++ []) u (h.whole [] _ (fault_whole p touched t c before detail b some i)))
+
+-- bytes that are no characters
+pub no_text_found : (text : List ℕ) (f : Fault) → (IsUtf8 text → ⊥) → f ≡ fault_at first_place text fault_code.NotUtf8 0 0 → HasFault text f
+no_text_found text f never e = subst (λ x. HasFault text x) (sym (e ∙ ap at (nothing text))) (not_utf8 never)
+  where
+    nothing : (t : List ℕ) → take 0 t ≡ []
+    nothing [] = refl
+    nothing (c ∷ cs) = refl
+
+    at : List ℕ → Fault
+    at front = record { code = fault_code.NotUtf8; place = behind first_place front; detail = front }
 
 -- ---- from the program's tests
 

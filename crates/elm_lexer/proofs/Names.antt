@@ -1,6 +1,6 @@
 -- Each name without points among the tokens is a word.
 use Rattle.std.proofs.Common.{◌≡◌, ℕ, ◌<◌, List, [], ◌∷◌, ◌++◌, take, drop, Bool, true, false, Option, Some, None, nat_le, ◌||◌, refl, sym, ap, subst, ◌∙◌, arith}
-use Rattle.std.specs.Prelude.{if◌then◌else◌, option_and_then, ◌==◌, codes, encode_utf8_all, ⊤}
+use Rattle.std.specs.Prelude.{if◌then◌else◌, option_and_then, ◌==◌, encode_utf8_all, ⊤}
 use Rattle.std.specs.List.{list_any, list_all}
 use Rattle.std.specs.Str.{bytes_eq, IsUtf8, chars}
 use Rattle.std.proofs.lemmas.Bool.Decides.{nat_tests}
@@ -11,7 +11,6 @@ use Rattle.elm_lexer.specs.declared.token.Kind.{Kind}
 use Rattle.elm_lexer.specs.declared.token.Kind.TheVariants.{Int, Text, Char, LowerName, UpperName, QualifiedLower, QualifiedUpper, Backslash, Operator}
 use Rattle.elm_lexer.specs.declared.first.First.TheVariants as first
 use Rattle.elm_lexer.specs.Characters.{is_letter, is_upper, is_lower, is_digit, is_mark, is_operator_char}
-use Rattle.elm_lexer.specs.Firsts.{IsFirst}
 use Rattle.elm_lexer.specs.Kinds.{kind_in, reserved_kinds, marks, operators, begins_upper, begins_field, field_of, field_kind, last_word, name_kind, number_value, int_of, wildcard_kind, kind_of}
 use Rattle.elm_lexer.specs.Literals.{is_character, literal_kind}
 use Rattle.elm_lexer.specs.Pieces.{is_word, is_upper_word, IsName, word, joined, IsPiece, name, number, wildcard, field, mark, operator, SpellsPiece}

@@ -1,10 +1,8 @@
 -- One turn of the scans of literals.
-use Rattle.std.proofs.Common.{◌≡◌, ℕ, ◌+◌, ◌*◌, ◌<◌, ◌≤◌, List, [], ◌∷◌, ◌++◌, length, get_or, drop, Bool, true, false, not, nat_le, nat_lt, ◌&&◌, ◌||◌, ◌==◌, Option, Some, None, sym, refl, ap, ◌∙◌, arith, append_assoc, append-nil}
+use Rattle.std.proofs.Common.{◌≡◌, ℕ, ◌+◌, ◌<◌, List, [], ◌∷◌, ◌++◌, length, get_or, drop, Bool, true, false, not, ◌&&◌, ◌==◌, Some, None, sym, refl, ap, ◌∙◌, arith, append_assoc, append-nil}
 use Rattle.elm_lexer.specs.declared.reading.Reading.{Reading}
 use Rattle.elm_lexer.specs.declared.reading.Reading.TheVariants.{Plain}
-use Rattle.elm_lexer.specs.Characters.{is_hex_digit}
-use Rattle.elm_lexer.specs.Kinds.{digit_value}
-use Rattle.elm_lexer.specs.Literals.{begins_lines, escapes, closes, line_length, lines_length, ends_code, begins_escape, bad_escape, units_at, reading_after, units_from}
+use Rattle.elm_lexer.specs.Literals.{begins_lines, escapes, closes, line_length, lines_length, begins_escape, bad_escape, units_at, reading_after, units_from}
 
 -- ---- a literal of one line
 

@@ -1,15 +1,17 @@
 -- What a text begins with is what the program finds, and what a token is.
-use Rattle.std.proofs.Common.{◌≡◌, ℕ, zero, suc, ◌<◌, ◌≤◌, List, [], ◌∷◌, ◌++◌, length, take, drop, Bool, true, false, Option, Some, None, sym, refl, ap, subst, ◌∙◌, arith, length-append}
+use Rattle.std.specs.Prelude.{if◌then◌else◌}
+use Rattle.std.proofs.Common.{◌≡◌, ℕ, zero, suc, ◌<◌, ◌≤◌, List, length, take, drop, Bool, true, false, Option, Some, None, sym, refl, ap, subst, ◌∙◌, arith, length-append}
 use Rattle.std.specs.Str.{IsUtf8, chars}
 use Rattle.elm_base.specs.declared.fault.Code.{Code}
+use Rattle.elm_base.specs.declared.fault.Code.TheVariants.{BadEscape, Tab}
 use Rattle.elm_lexer.specs.declared.token.Kind.{Kind}
 use Rattle.elm_lexer.specs.declared.first.First.{First}
 use Rattle.elm_lexer.specs.declared.first.First.TheVariants as first
-use Rattle.elm_lexer.specs.Firsts.{IsFirst, piece, stray, literal, piece_first, kind_first, escape_first, length_first, literal_first, cut_first, first_in, IsWithin}
-use Rattle.elm_lexer.specs.Kinds.{kind_of, detail_of}
+use Rattle.elm_lexer.specs.Firsts.{IsFirst, piece, stray, literal, piece_first, kind_first, escape_first, character_first, closed_first, length_first, cut_first, first_in, IsWithin}
+use Rattle.elm_lexer.specs.Kinds.{kind_of}
 use Rattle.elm_lexer.specs.Lengths.{piece_length}
-use Rattle.elm_lexer.specs.Literals.{begins_literal, literal_length, bad_escape, literal_kind}
-use Rattle.elm_lexer.specs.Pieces.{IsCut, SpellsPiece}
+use Rattle.elm_lexer.specs.Literals.{begins_literal, literal_length, bad_escape, begins_text, has_bad_escape, is_tab, literal_kind}
+use Rattle.elm_lexer.specs.Pieces.{IsCut}
 use Rattle.elm_lexer.proofs.Basics.{front_of}
 use Rattle.elm_lexer.proofs.Ends.{literal_ended, literal_parts}
 use Rattle.elm_lexer.proofs.Pieces.{cut_is, cut_at, spelled_piece, no_piece, no_length, cut_no_literal}
@@ -74,11 +76,26 @@ token_of t _ kind n (literal b) e = by_length (literal_length t) refl
     by_escape m l (Some before) g = absurd cc
     by_escape m l None g = by_kind m l (literal_kind (take m t)) refl g
 
+    no_fault : (code : Code) (before detail : ℕ) → first.Fault code before detail ≡ first.Token kind n → TokenOf t kind n
+    no_fault code before detail g = absurd cc
+
+    either : (b : Bool) (x y : First) → (x ≡ first.Token kind n → TokenOf t kind n) → (y ≡ first.Token kind n → TokenOf t kind n) → (if b then x else y) ≡ first.Token kind n → TokenOf t kind n
+    either true x y f h g = f g
+    either false x y f h g = h g
+
+    by_character : (m : ℕ) → literal_length t ≡ Some m → character_first (take m t) ≡ first.Token kind n → TokenOf t kind n
+    by_character m l =
+        either (has_bad_escape (take m t)) _ _ (no_fault BadEscape 1 0)
+        (either (is_tab (take m t)) _ _ (no_fault Tab 1 0) (by_kind m l (literal_kind (take m t)) refl))
+
+    by_closed : (m : ℕ) → literal_length t ≡ Some m → closed_first (take m t) ≡ first.Token kind n → TokenOf t kind n
+    by_closed m l = either (begins_text (take m t)) _ _ (by_escape m l (bad_escape false 0 (take m t))) (by_character m l)
+
     by_length : (k : Option ℕ) → literal_length t ≡ k → TokenOf t kind n
     by_length None l = let g : length_first t None ≡ first.Token kind n = ap (length_first t) (sym l) ∙ e in absurd cc
     by_length (Some m) l =
         let g : length_first t (Some m) ≡ first.Token kind n = ap (length_first t) (sym l) ∙ e in
-        by_escape m l (bad_escape false 0 (take m t)) g
+        by_closed m l g
 
 -- a token has some bytes, and what follows it is a text
 pub record Cut (t : List ℕ) (n : ℕ) : Type 0 where

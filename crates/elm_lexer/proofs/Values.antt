@@ -1,5 +1,5 @@
 -- Each text and character among the tokens is a literal.
-use Rattle.std.proofs.Common.{◌≡◌, ℕ, ◌+◌, ◌-◌, ◌<◌, ◌≤◌, List, [], ◌∷◌, ◌++◌, length, take, drop, get_or, Bool, true, false, ◌&&◌, ◌||◌, ◌==◌, Option, Some, None, nat_le, sym, refl, ap, subst, ◌∙◌, arith, append_assoc, length-append}
+use Rattle.std.proofs.Common.{◌≡◌, ℕ, ◌+◌, ◌-◌, ◌<◌, ◌≤◌, List, [], ◌∷◌, ◌++◌, length, take, drop, Bool, true, false, ◌==◌, Option, Some, None, nat_le, sym, refl, ap, subst, ◌∙◌, arith, append_assoc, length-append}
 use Rattle.std.specs.Prelude.{if◌then◌else◌, option_and_then, ⊤}
 use Rattle.std.specs.List.{list_any}
 use Rattle.std.specs.Str.{bytes_eq, IsUtf8}
@@ -11,12 +11,11 @@ use Rattle.elm_lexer.specs.declared.token.Kind.{Kind}
 use Rattle.elm_lexer.specs.declared.token.Kind.TheVariants.{Int, Text, Char, LowerName, UpperName, QualifiedLower, QualifiedUpper, Backslash, Operator}
 use Rattle.elm_lexer.specs.declared.first.First.TheVariants as first
 use Rattle.elm_lexer.specs.Characters.{is_letter, is_digit, is_mark, is_operator_char}
-use Rattle.elm_lexer.specs.Firsts.{IsFirst}
 use Rattle.elm_lexer.specs.Kinds.{kind_in, reserved_kinds, marks, operators, begins_upper, begins_field, field_of, field_kind, last_word, name_kind, number_value, int_of, wildcard_kind, kind_of}
-use Rattle.elm_lexer.specs.Literals.{begins_literal, begins_lines, line_length, literal_length, literal_body, literal_kind, SpellsLiteral}
+use Rattle.elm_lexer.specs.Literals.{begins_literal, begins_lines, literal_length, literal_body, SpellsLiteral}
 use Rattle.elm_lexer.specs.Names.{SpellsValue, AreValues}
 use Rattle.elm_lexer.specs.Tokens.{Place, Token, Fault, Reads, no_more, gap, open_comment, token, fault, token_at, Tokens}
-use Rattle.elm_lexer.proofs.Basics.{and_true, both_true, true_false, eq_true, front_of}
+use Rattle.elm_lexer.proofs.Basics.{true_false, front_of}
 use Rattle.elm_lexer.proofs.Ends.{Ended, line_ended, lines_begin, Closed, lines_closed, quote_low}
 use Rattle.elm_lexer.proofs.Starts.{TokenOf, of_piece, of_literal, token_of, token_cut}
 use Rattle.elm_lexer.proofs.Texts.{behind_ascii, at_front, gap_text}

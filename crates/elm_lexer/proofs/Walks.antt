@@ -1,11 +1,11 @@
 -- One turn of the walks over the characters of a text.
-use Rattle.std.proofs.Common.{◌≡◌, ℕ, ◌+◌, List, [], ◌∷◌, ◌++◌, length, Bool, true, false, ◌&&◌, ◌||◌, ◌==◌, sym, refl, ap, ◌∙◌, arith, length-append, Option, Some, None}
+use Rattle.std.proofs.Common.{◌≡◌, ℕ, ◌+◌, List, [], ◌∷◌, ◌++◌, length, Bool, true, false, ◌&&◌, ◌||◌, ◌==◌, sym, refl, ap, ◌∙◌, arith, length-append, Some, None}
 use Rattle.std.proofs.lemmas.Str.{chars_past_char}
 use Rattle.std.specs.Char.{encode_utf8}
 use Rattle.std.specs.Str.{IsUtf8, chars}
 use Rattle.elm_base.specs.Path.{is_name_char}
 use Rattle.elm_lexer.specs.declared.part.Part.{Part}
-use Rattle.elm_lexer.specs.Characters.{is_letter, is_digit}
+use Rattle.elm_lexer.specs.Characters.{is_letter, is_digit, is_mark, is_operator_char}
 use Rattle.elm_lexer.specs.Kinds.{begins_upper, begins_lower}
 use Rattle.elm_lexer.specs.Lengths.{run, begins_letter, name_run, next_part, number_run, piece_length}
 use Rattle.elm_lexer.specs.Numbers.{after_name_char, after_joint, is_joint}
@@ -107,6 +107,14 @@ piece_word t r c u e l d o = sym (ap piece_length (chars_past_char t r c u e) �
   where
     counted : piece_length (c ∷ chars r) ≡ 1 + run is_name_char (chars r)
     counted = rw (l, d, o) refl
+
+-- operator characters, or none
+pub piece_operator : (t r : List ℕ) (c n : ℕ) → IsUtf8 t → t ≡ encode_utf8 c ++ r → is_letter c ≡ false → is_digit c ≡ false → (c == 95 || (c == 46 && begins_lower (chars r))) ≡ false → is_mark c ≡ false → n ≡ run is_operator_char (chars t) → n ≡ piece_length (chars t)
+piece_operator t r c n u e l d o m h =
+    h ∙ (ap (run is_operator_char) (chars_past_char t r c u e) ∙ (sym counted ∙ sym (ap piece_length (chars_past_char t r c u e))))
+  where
+    counted : piece_length (c ∷ chars r) ≡ run is_operator_char (c ∷ chars r)
+    counted = rw (l, d, o, m) refl
 
 -- what a text's length is by its first character
 pub piece_as : (t r : List ℕ) (c n : ℕ) → IsUtf8 t → t ≡ encode_utf8 c ++ r → n ≡ piece_length (c ∷ chars r) → n ≡ piece_length (chars t)

@@ -9,7 +9,7 @@ use Rattle.elm_lexer.specs.declared.first.First.TheVariants.{Token, Fault}
 use Rattle.elm_lexer.specs.Lengths.{piece_length}
 use Rattle.elm_lexer.specs.Pieces.{SpellsPiece, IsCut}
 use Rattle.elm_lexer.specs.Kinds.{kind_of, fault_of, detail_of}
-use Rattle.elm_lexer.specs.Literals.{begins_literal, literal_length, bad_escape, literal_kind}
+use Rattle.elm_lexer.specs.Literals.{begins_literal, literal_length, bad_escape, begins_text, has_bad_escape, is_tab, literal_kind}
 
 -- a piece is a token, or its fault stands at its start
 abbrev pub piece_first : List ℕ → Option Kind → First
@@ -26,14 +26,24 @@ abbrev pub kind_first : List ℕ → Option Kind → First
 kind_first literal (Some kind) = Token kind (length literal)
 kind_first literal None = Fault Syntax 0 0
 
--- a literal that has an end, and perhaps a bad escape after so many bytes
+-- a text that has an end, and perhaps a bad escape after so many bytes
 abbrev pub escape_first : List ℕ → Option ℕ → First
 escape_first literal (Some before) = Fault BadEscape before 0
 escape_first literal None = kind_first literal (literal_kind literal)
 
+-- a character that has an end: a bad escape and a tab are faults of their own
+abbrev pub character_first : List ℕ → First
+character_first literal =
+    if has_bad_escape literal then Fault BadEscape 1 0
+    else (if is_tab literal then Fault Tab 1 0 else kind_first literal (literal_kind literal))
+
+-- a literal that has an end
+abbrev pub closed_first : List ℕ → First
+closed_first literal = if begins_text literal then escape_first literal (bad_escape false 0 literal) else character_first literal
+
 -- a literal, and its length if it has an end
 abbrev pub length_first : List ℕ → Option ℕ → First
-length_first text (Some n) = escape_first (take n text) (bad_escape false 0 (take n text))
+length_first text (Some n) = closed_first (take n text)
 length_first text None = Fault Unclosed 0 0
 
 abbrev pub literal_first : List ℕ → First

@@ -94,6 +94,21 @@ abbrev pub is_character : List ℕ → Bool
 is_character (quote ∷ c ∷ cs) = if c == 92 then is_escape_and_quote cs else is_rest_and_quote cs
 is_character _ = false
 
+-- a text begins with " (34), and a character does not
+abbrev pub begins_text : List ℕ → Bool
+begins_text [] = false
+begins_text (c ∷ cs) = c == 34
+
+-- a character whose backslash begins no escape
+abbrev pub has_bad_escape : List ℕ → Bool
+has_bad_escape (quote ∷ c ∷ cs) = c == 92 && not (begins_escape cs)
+has_bad_escape _ = false
+
+-- a tab (9) alone stands between the quotes
+abbrev pub is_tab : List ℕ → Bool
+is_tab (quote ∷ c ∷ cs) = c == 9 && is_quote cs
+is_tab _ = false
+
 -- the kind of a literal, if it is a token
 abbrev pub literal_kind : List ℕ → Option Kind
 literal_kind [] = None

@@ -1,5 +1,5 @@
 -- Numbers: how far the piece of one goes, and which of them have a point or an exponent.
-use Rattle.std.specs.Prelude.{ℕ, Bool, true, false, ◌&&◌, ◌||◌, if◌then◌else◌, ◌==◌, List, [], ◌∷◌}
+use Rattle.std.specs.Prelude.{ℕ, Bool, true, false, ◌&&◌, if◌then◌else◌, ◌==◌, List, [], ◌∷◌}
 use Rattle.std.specs.List.{list_all}
 use Rattle.elm_base.specs.Path.{is_name_char}
 use Rattle.elm_lexer.specs.declared.part.Part.{Part}

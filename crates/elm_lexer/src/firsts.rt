@@ -4,11 +4,13 @@ ghost use Rattle.std.specs.Prelude.{◌≡◌, false, ◌<◌, ◌≤◌, ◌^�
 ghost use Rattle.std.specs.Str.{chars};
 ghost use Rattle.elm_lexer.specs.Kinds.{kind_of as the_kind};
 ghost use Rattle.elm_lexer.specs.Literals.{bad_escape as the_escape, literal_kind as the_literal_kind};
-ghost use Rattle.elm_lexer.specs.Firsts.{piece_first, stray_code, kind_first, escape_first, literal_first, IsWithin, first_in};
+ghost use Rattle.elm_lexer.specs.Firsts.{piece_first, stray_code, kind_first, escape_first, character_first, closed_first, literal_first, IsWithin, first_in};
 
 use crate::first::First;
 use crate::kind::{detail_length, fault_of, kind_of};
-use crate::literal::{bad_escape, begins_literal, literal_kind, literal_length};
+use crate::literal::{
+    bad_escape, begins_literal, begins_text, has_bad_escape, is_tab, literal_kind, literal_length,
+};
 use crate::piece::piece_length;
 use elm_base::fault::Code;
 
@@ -44,7 +46,7 @@ fn kind_first(literal: &[u8]) -> First
     }
 }
 
-/// What a literal is that has an end.
+/// What a text is that has an end.
 fn escape_first(literal: &[u8]) -> First
     ensures value { result ≡ escape_first literal.now (the_escape false 0 literal.now) }
     ensures within { IsWithin result (length literal.now) }
@@ -55,6 +57,32 @@ fn escape_first(literal: &[u8]) -> First
     }
 }
 
+/// What a character is that has an end.
+fn character_first(literal: &[u8]) -> First
+    ensures value { result ≡ character_first literal.now }
+    ensures within { IsWithin result (length literal.now) }
+{
+    if has_bad_escape(literal) {
+        First::Fault(Code::BadEscape, 1, 0)
+    } else if is_tab(literal) {
+        First::Fault(Code::Tab, 1, 0)
+    } else {
+        kind_first(literal)
+    }
+}
+
+/// What a literal is that has an end.
+fn closed_first(literal: &[u8]) -> First
+    ensures value { result ≡ closed_first literal.now }
+    ensures within { IsWithin result (length literal.now) }
+{
+    if begins_text(literal) {
+        escape_first(literal)
+    } else {
+        character_first(literal)
+    }
+}
+
 /// What a text is that begins with a quote.
 fn literal_first(text: &[u8]) -> First
     requires { length text.now < 2 ^ 32 }
@@ -62,7 +90,7 @@ fn literal_first(text: &[u8]) -> First
     ensures within { IsWithin result (length text.now) }
 {
     match literal_length(text) {
-        Some(length) => escape_first(&text[..length]),
+        Some(length) => closed_first(&text[..length]),
         None => First::Fault(Code::Unclosed, 0, 0),
     }
 }

@@ -2,7 +2,7 @@
 
 ghost use Rattle.std.specs.Prelude.{◌≡◌, ◌≤◌, ◌<◌, ◌+◌, ◌^◌, false, length, not, ◌&&◌, IsTrue, IfSome, codes};
 ghost use Rattle.elm_lexer.specs.Characters.{is_among};
-ghost use Rattle.elm_lexer.specs.Literals.{begins_literal, begins_lines, escapes, closes, line_length, lines_length, literal_length, ends_code, begins_code, begins_escape, bad_escape, is_quote, is_code_and_quote, is_escape_and_quote, is_rest_and_quote, is_character, literal_kind};
+ghost use Rattle.elm_lexer.specs.Literals.{begins_literal, begins_lines, escapes, closes, line_length, lines_length, literal_length, ends_code, begins_code, begins_escape, bad_escape, is_quote, is_code_and_quote, is_escape_and_quote, is_rest_and_quote, is_character, begins_text, has_bad_escape, is_tab, literal_kind};
 
 use crate::characters::{is_continuing, is_hex_digit};
 use crate::kind::digit_value;
@@ -114,7 +114,7 @@ pub(crate) fn literal_length(text: &[u8]) -> Option<usize>
 fn ends_code(text: &[u8]) -> bool
     ensures { result ≡ ends_code 0 0 text.now }
 {
-    let mut count = 0;
+    let mut count: u32 = 0;
     let mut value = 0;
     let mut rest = text;
     while let [c, after @ ..] = rest {
@@ -248,6 +248,38 @@ fn is_character(literal: &[u8]) -> bool
                 is_rest_and_quote(after)
             }
         }
+        _ => false,
+    }
+}
+
+/// Whether the literal is a text, and no character.
+pub(crate) fn begins_text(literal: &[u8]) -> bool
+    ensures { result ≡ begins_text literal.now }
+{
+    match literal {
+        [c, ..] => *c == b'"',
+        [] => false,
+    }
+}
+
+/// Whether the backslash of a character begins no escape.
+pub(crate) fn has_bad_escape(literal: &[u8]) -> bool
+    ensures value { result ≡ has_bad_escape literal.now }
+    ensures long { IsTrue result → 2 ≤ length literal.now }
+{
+    match literal {
+        [_, c, after @ ..] => is_bad_escape(*c == b'\\', after),
+        _ => false,
+    }
+}
+
+/// Whether a tab alone stands between the quotes.
+pub(crate) fn is_tab(literal: &[u8]) -> bool
+    ensures value { result ≡ is_tab literal.now }
+    ensures long { IsTrue result → 2 ≤ length literal.now }
+{
+    match literal {
+        [_, c, after @ ..] => *c == b'\t' && is_quote(after),
         _ => false,
     }
 }

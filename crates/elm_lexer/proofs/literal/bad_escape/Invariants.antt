@@ -1,4 +1,4 @@
-use Rattle.std.proofs.Common.{◌≡◌, ◌+◌, ◌≤◌, length, false}
+use Rattle.std.proofs.Common.{◌≡◌, ◌+◌, length, false}
 use Rattle.elm_lexer.specs.Literals.{bad_escape}
 use Rattle.elm_lexer.proofs.literal.bad_escape.Given as goal
 

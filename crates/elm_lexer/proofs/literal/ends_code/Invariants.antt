@@ -1,4 +1,4 @@
-use Rattle.std.proofs.Common.{◌≡◌, ◌+◌, ◌≤◌, length, false}
+use Rattle.std.proofs.Common.{◌≡◌, ◌≤◌, length}
 use Rattle.elm_lexer.specs.Literals.{ends_code}
 use Rattle.elm_lexer.proofs.literal.ends_code.Given as goal
 

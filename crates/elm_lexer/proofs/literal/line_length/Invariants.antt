@@ -1,4 +1,4 @@
-use Rattle.std.proofs.Common.{◌≡◌, ◌+◌, ◌≤◌, length, false}
+use Rattle.std.proofs.Common.{◌≡◌, ◌+◌, length, false}
 use Rattle.elm_lexer.specs.Literals.{line_length}
 use Rattle.elm_lexer.proofs.literal.line_length.Given as goal
 
