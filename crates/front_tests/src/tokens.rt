@@ -136,6 +136,10 @@ fn faults(rt: HostRuntime) {
     assert!(&rt; is_fault(&rt, b"'a", Code::Unclosed, 1, 1, b""));
     assert!(&rt; is_fault(&rt, b"'ab'", Code::Syntax, 1, 1, b""));
     assert!(&rt; is_fault(&rt, b"''", Code::Syntax, 1, 1, b""));
+    assert!(&rt; is_fault(&rt, b"'\t'", Code::Tab, 1, 2, b""));
+    assert!(&rt; is_fault(&rt, b"'\ta'", Code::Syntax, 1, 1, b""));
+    assert!(&rt; is_fault(&rt, b"'\\q'", Code::BadEscape, 1, 2, b""));
+    assert!(&rt; is_fault(&rt, b"'a\\q'", Code::Syntax, 1, 1, b""));
     assert!(&rt; is_fault(&rt, b"'\\n\\n'", Code::Syntax, 1, 1, b""));
     assert!(&rt; is_fault(&rt, b"'\\u{0041}a'", Code::Syntax, 1, 1, b""));
     assert!(&rt;
