@@ -4,7 +4,7 @@ use Rattle.std.proofs.lemmas.Bool.Decides.{nat_tests}
 use Rattle.std.specs.Prelude.{if◌then◌else◌}
 use Rattle.std.specs.Str.{IsUtf8}
 use Rattle.elm_lexer.specs.Literals.{begins_literal, begins_lines, escapes, closes, line_length, lines_length, literal_length}
-use Rattle.elm_lexer.proofs.Basics.{and_true, eq_true, front_of}
+use Rattle.elm_lexer.proofs.Basics.{and_true, not_true, eq_true, front_of}
 use Rattle.elm_lexer.proofs.Texts.{behind_ascii, from_ascii}
 
 -- a literal of m bytes ends in the text, which n bytes of it precede, with a character below 128
@@ -16,24 +16,37 @@ pub record Ended (t : List ℕ) (n m : ℕ) : Type 0 where
   pub low : last < 128
   pub long : m ≡ n + length body + 1
 
-pub line_ended : (q : ℕ) (e : Bool) (n : ℕ) (t : List ℕ) (m : ℕ) → q < 128 → line_length q e n t ≡ Some m → Ended t n m
-line_ended q e n [] m low h = absurd cc
-line_ended q e n (c ∷ cs) m low h = at (λ f g. line_ended q f (n + 1) cs m low g) (c == 10) refl
+-- a backslash is open after the bytes; e: one is open before them
+abbrev pub is_open : Bool → List ℕ → Bool
+is_open e [] = e
+is_open e (c ∷ cs) = is_open (escapes e c) cs
+
+-- a literal of one line, of m bytes, ends in the text, which n bytes of it precede
+pub record LineEnd (q : ℕ) (e : Bool) (t : List ℕ) (n m : ℕ) : Type 0 where
+  pub body : List ℕ
+  pub rest : List ℕ
+  pub whole : t ≡ body ++ q ∷ rest
+  pub closed : is_open e body ≡ false
+  pub long : m ≡ n + length body + 1
+
+pub line_ended : (q : ℕ) (e : Bool) (n : ℕ) (t : List ℕ) (m : ℕ) → line_length q e n t ≡ Some m → LineEnd q e t n m
+line_ended q e n [] m h = absurd cc
+line_ended q e n (c ∷ cs) m h = at (λ f g. line_ended q f (n + 1) cs m g) (c == 10) refl
   where
-    close : ((f : Bool) → line_length q f (n + 1) cs ≡ Some m → Ended cs (n + 1) m) → (b : Bool) → closes q e c ≡ b → (if closes q e c then Some (n + 1) else line_length q (escapes e c) (n + 1) cs) ≡ Some m → Ended (c ∷ cs) n m
+    close : ((f : Bool) → line_length q f (n + 1) cs ≡ Some m → LineEnd q f cs (n + 1) m) → (b : Bool) → closes q e c ≡ b → (if closes q e c then Some (n + 1) else line_length q (escapes e c) (n + 1) cs) ≡ Some m → LineEnd q e (c ∷ cs) n m
     close later true k g =
         let v = and_true (not e) (c == q) k in
         let same : Some (n + 1) ≡ Some m = rw k at g in
         let long : n + 1 ≡ m = cc in
-        record { body = []; last = c; rest = cs; whole = refl; low = omega (arith, eq_true c q v.1); long = omega (arith, long) }
+        record { body = []; rest = cs; whole = ap (λ (x : ℕ). x ∷ cs) (eq_true c q v.1); closed = not_true e v.0; long = omega (arith, long) }
     close later false k g =
         let w = later (escapes e c) (rw k at g) in
-        record { body = c ∷ w.body; last = w.last; rest = w.rest; whole = ap (λ (xs : List ℕ). c ∷ xs) w.whole; low = w.low; long = omega (arith, w.long) }
+        record { body = c ∷ w.body; rest = w.rest; whole = ap (λ (xs : List ℕ). c ∷ xs) w.whole; closed = w.closed; long = omega (arith, w.long) }
 
-    none : (x : Option ℕ) → x ≡ None → x ≡ Some m → Ended (c ∷ cs) n m
+    none : (x : Option ℕ) → x ≡ None → x ≡ Some m → LineEnd q e (c ∷ cs) n m
     none x p s = absurd cc
 
-    at : ((f : Bool) → line_length q f (n + 1) cs ≡ Some m → Ended cs (n + 1) m) → (b : Bool) → (c == 10) ≡ b → Ended (c ∷ cs) n m
+    at : ((f : Bool) → line_length q f (n + 1) cs ≡ Some m → LineEnd q f cs (n + 1) m) → (b : Bool) → (c == 10) ≡ b → LineEnd q e (c ∷ cs) n m
     at later true k = none (line_length q e n (c ∷ cs)) (rw k refl) h
     at later false k = close later (closes q e c) refl (rw k at h)
 
@@ -49,26 +62,27 @@ lines_begin (a ∷ b ∷ c ∷ cs) e =
     let r = eq_true c 34 w.1 in
     cc
 
--- a literal of several lines, of m bytes, ends in the text, which n bytes of it precede
-pub record Closed (t : List ℕ) (n m : ℕ) : Type 0 where
+-- the same of a literal of several lines
+pub record Closed (e : Bool) (t : List ℕ) (n m : ℕ) : Type 0 where
   pub body : List ℕ
   pub rest : List ℕ
   pub whole : t ≡ body ++ 34 ∷ 34 ∷ 34 ∷ rest
+  pub closed : is_open e body ≡ false
   pub long : m ≡ n + length body + 3
 
-pub lines_closed : (e : Bool) (n : ℕ) (t : List ℕ) (m : ℕ) → lines_length e n t ≡ Some m → Closed t n m
+pub lines_closed : (e : Bool) (n : ℕ) (t : List ℕ) (m : ℕ) → lines_length e n t ≡ Some m → Closed e t n m
 lines_closed e n [] m h = absurd cc
 lines_closed e n (c ∷ cs) m h = at (λ f g. lines_closed f (n + 1) cs m g) (not e && begins_lines (c ∷ cs)) refl
   where
-    at : ((f : Bool) → lines_length f (n + 1) cs ≡ Some m → Closed cs (n + 1) m) → (b : Bool) → (not e && begins_lines (c ∷ cs)) ≡ b → Closed (c ∷ cs) n m
+    at : ((f : Bool) → lines_length f (n + 1) cs ≡ Some m → Closed f cs (n + 1) m) → (b : Bool) → (not e && begins_lines (c ∷ cs)) ≡ b → Closed e (c ∷ cs) n m
     at later true k =
         let v = and_true (not e) (begins_lines (c ∷ cs)) k in
         let same : Some (n + 3) ≡ Some m = rw k at h in
         let long : n + 3 ≡ m = cc in
-        record { body = []; rest = drop 3 (c ∷ cs); whole = lines_begin (c ∷ cs) v.1; long = omega (arith, long) }
+        record { body = []; rest = drop 3 (c ∷ cs); whole = lines_begin (c ∷ cs) v.1; closed = not_true e v.0; long = omega (arith, long) }
     at later false k =
         let w = later (escapes e c) (rw k at h) in
-        record { body = c ∷ w.body; rest = w.rest; whole = ap (λ (xs : List ℕ). c ∷ xs) w.whole; long = omega (arith, w.long) }
+        record { body = c ∷ w.body; rest = w.rest; whole = ap (λ (xs : List ℕ). c ∷ xs) w.whole; closed = w.closed; long = omega (arith, w.long) }
 
 pub quote_low : (c : ℕ) → (c == 34 || c == 39) ≡ true → c < 128
 quote_low c e = grind (arith, nat_tests)
@@ -89,8 +103,8 @@ literal_ended (c ∷ cs) m b h = at (begins_lines (c ∷ cs)) refl
           long = omega (arith, w.long, length-append w.body (34 ∷ 34 ∷ []));
         }
     at false k =
-        let w = line_ended c false 1 cs m (quote_low c b) (rw k at h) in
-        record { body = c ∷ w.body; last = w.last; rest = w.rest; whole = ap (λ (xs : List ℕ). c ∷ xs) w.whole; low = w.low; long = omega (arith, w.long) }
+        let w = line_ended c false 1 cs m (rw k at h) in
+        record { body = c ∷ w.body; last = c; rest = w.rest; whole = ap (λ (xs : List ℕ). c ∷ xs) w.whole; low = quote_low c b; long = omega (arith, w.long) }
 
 -- the literal and what follows it
 pub record Parts (t : List ℕ) (m : ℕ) : Type 0 where

@@ -14,3 +14,4 @@ pub mod Loop
 pub mod Names
 pub mod Total
 pub mod Values
+pub mod Spelled

@@ -9,7 +9,6 @@ use Rattle.std.proofs.lemmas.Str.{encode_ascii, encodes-append, encodes-chars}
 use Rattle.elm_base.specs.Path.{is_name_char}
 use Rattle.elm_lexer.specs.declared.token.Kind.{Kind}
 use Rattle.elm_lexer.specs.declared.token.Kind.TheVariants.{Int, Text, Char, LowerName, UpperName, QualifiedLower, QualifiedUpper, Backslash, Operator}
-use Rattle.elm_lexer.specs.declared.first.First.TheVariants as first
 use Rattle.elm_lexer.specs.Characters.{is_letter, is_upper, is_lower, is_digit, is_mark, is_operator_char}
 use Rattle.elm_lexer.specs.Kinds.{kind_in, reserved_kinds, marks, operators, begins_upper, begins_field, field_of, field_kind, last_word, name_kind, number_value, int_of, wildcard_kind, kind_of}
 use Rattle.elm_lexer.specs.Literals.{is_character, literal_kind}
@@ -17,7 +16,7 @@ use Rattle.elm_lexer.specs.Pieces.{is_word, is_upper_word, IsName, word, joined,
 use Rattle.elm_lexer.specs.Names.{is_lower_word, SpellsName, AreNames}
 use Rattle.elm_lexer.specs.Tokens.{Place, Token, Fault, Reads, no_more, gap, open_comment, token, fault, token_at, Tokens}
 use Rattle.elm_lexer.proofs.Basics.{and_true, both_true, true_false}
-use Rattle.elm_lexer.proofs.Starts.{TokenOf, of_piece, of_literal, token_of}
+use Rattle.elm_lexer.proofs.Starts.{TokenOf, of_piece, of_literal, token_is}
 use Rattle.elm_lexer.proofs.Pieces.{digit_letter, mark_letter, operator_letter, mark_below, operator_below}
 
 -- the same of a kind, if there is one
@@ -157,14 +156,14 @@ literal_spelled bytes (c ∷ cs) = if_either bytes (c == 34) _ (Some Text) _ ref
 
 token_spelled : (t : List ℕ) (kind : Kind) (n : ℕ) → TokenOf t kind n → SpellsName kind (take n t)
 token_spelled t kind n (of_piece long c k) = subst (λ x. IfName (take n t) x) k (piece_spelled (take n t) c.is_piece)
-token_spelled t kind n (of_literal b l k) = subst (λ x. IfName (take n t) x) k (literal_spelled (take n t) (take n t))
+token_spelled t kind n (of_literal b l x k) = subst (λ x. IfName (take n t) x) k (literal_spelled (take n t) (take n t))
 
 cut_names : {p : Place} {touched : Bool} {text : List ℕ} {ts : List Token} {end : Option Fault} → Reads p touched text ts end → AreNames ts
 cut_names no_more = All-nil (λ (t : Token). SpellsName t.kind t.text)
 cut_names (gap body g h) = cut_names h
 cut_names (open_comment b never) = All-nil (λ (t : Token). SpellsName t.kind t.text)
 cut_names (token {p = p} {touched = touched} {text = text} {kind = kind} {n = n} {ts = ts} b f h) =
-    All-cons (λ (t : Token). SpellsName t.kind t.text) (token_at p touched (take n text) kind (drop n text)) ts (token_spelled text kind n (token_of text (first.Token kind n) kind n f refl)) (cut_names h)
+    All-cons (λ (t : Token). SpellsName t.kind t.text) (token_at p touched (take n text) kind (drop n text)) ts (token_spelled text kind n (token_is text kind n f)) (cut_names h)
 cut_names (fault b f) = All-nil (λ (t : Token). SpellsName t.kind t.text)
 
 pub tokens_names : (text : List ℕ) (ts : List Token) → Tokens text ts → AreNames ts

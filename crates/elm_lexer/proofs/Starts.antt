@@ -1,16 +1,16 @@
 -- What a text begins with is what the program finds, and what a token is.
 use Rattle.std.specs.Prelude.{if◌then◌else◌}
-use Rattle.std.proofs.Common.{◌≡◌, ℕ, zero, suc, ◌<◌, ◌≤◌, List, length, take, drop, Bool, true, false, Option, Some, None, sym, refl, ap, subst, ◌∙◌, arith, length-append}
+use Rattle.std.proofs.Common.{◌≡◌, ℕ, zero, suc, ◌<◌, ◌≤◌, List, length, take, drop, Bool, true, false, ◌||◌, ◌==◌, Option, Some, None, sym, refl, ap, subst, ◌∙◌, arith, length-append}
 use Rattle.std.specs.Str.{IsUtf8, chars}
 use Rattle.elm_base.specs.declared.fault.Code.{Code}
-use Rattle.elm_base.specs.declared.fault.Code.TheVariants.{BadEscape, Tab}
+use Rattle.elm_base.specs.declared.fault.Code.TheVariants.{BadEscape, Syntax, Tab}
 use Rattle.elm_lexer.specs.declared.token.Kind.{Kind}
 use Rattle.elm_lexer.specs.declared.first.First.{First}
 use Rattle.elm_lexer.specs.declared.first.First.TheVariants as first
-use Rattle.elm_lexer.specs.Firsts.{IsFirst, piece, stray, literal, piece_first, kind_first, escape_first, character_first, closed_first, length_first, cut_first, first_in, IsWithin}
+use Rattle.elm_lexer.specs.Firsts.{IsFirst, piece, stray, literal, piece_first, kind_first, escape_first, length_first, cut_first, first_in, IsWithin}
 use Rattle.elm_lexer.specs.Kinds.{kind_of}
 use Rattle.elm_lexer.specs.Lengths.{piece_length}
-use Rattle.elm_lexer.specs.Literals.{begins_literal, literal_length, bad_escape, begins_text, has_bad_escape, is_tab, literal_kind}
+use Rattle.elm_lexer.specs.Literals.{begins_literal, literal_length, bad_escape, begins_text, is_tab, literal_kind}
 use Rattle.elm_lexer.specs.Pieces.{IsCut}
 use Rattle.elm_lexer.proofs.Basics.{front_of}
 use Rattle.elm_lexer.proofs.Ends.{literal_ended, literal_parts}
@@ -47,9 +47,9 @@ first_same t _ u (literal b) = rw b refl
 -- a token is a piece or a literal
 pub data TokenOf (t : List ℕ) (kind : Kind) (n : ℕ) : Type 0 where
   of_piece : length (take n t) ≡ n → IsCut t (take n t) (drop n t) → kind_of (take n t) ≡ Some kind → TokenOf t kind n
-  of_literal : begins_literal t ≡ true → literal_length t ≡ Some n → literal_kind (take n t) ≡ Some kind → TokenOf t kind n
+  of_literal : begins_literal t ≡ true → literal_length t ≡ Some n → bad_escape false 0 (take n t) ≡ None → literal_kind (take n t) ≡ Some kind → TokenOf t kind n
 
-pub token_of : (t : List ℕ) (f : First) (kind : Kind) (n : ℕ) → IsFirst t f → f ≡ first.Token kind n → TokenOf t kind n
+token_of : (t : List ℕ) (f : First) (kind : Kind) (n : ℕ) → IsFirst t f → f ≡ first.Token kind n → TokenOf t kind n
 token_of t _ kind n (piece {piece = p} {rest = rest} c) e = at (kind_of p) refl
   where
     at : (k : Option Kind) → kind_of p ≡ k → TokenOf t kind n
@@ -63,18 +63,14 @@ token_of t _ kind n (piece {piece = p} {rest = rest} c) e = at (kind_of p) refl
 token_of t _ kind n (stray b never) e = absurd cc
 token_of t _ kind n (literal b) e = by_length (literal_length t) refl
   where
-    by_kind : (m : ℕ) → literal_length t ≡ Some m → (k : Option Kind) → literal_kind (take m t) ≡ k → kind_first (take m t) k ≡ first.Token kind n → TokenOf t kind n
-    by_kind m l None k g = absurd cc
-    by_kind m l (Some x) k g =
+    by_kind : (m : ℕ) → literal_length t ≡ Some m → bad_escape false 0 (take m t) ≡ None → (k : Option Kind) → literal_kind (take m t) ≡ k → kind_first (take m t) k ≡ first.Token kind n → TokenOf t kind n
+    by_kind m l x None k g = absurd cc
+    by_kind m l x (Some y) k g =
         let parts = literal_parts t m (literal_ended t m b l) in
-        let same : x ≡ kind = cc in
+        let same : y ≡ kind = cc in
         let long : length (take m t) ≡ n = cc in
         let is : m ≡ n = sym parts.long ∙ long in
-        of_literal b (l ∙ ap (λ y. Some y) is) (subst (λ y. literal_kind (take y t) ≡ Some kind) is (k ∙ ap (λ y. Some y) same))
-
-    by_escape : (m : ℕ) → literal_length t ≡ Some m → (k : Option ℕ) → escape_first (take m t) k ≡ first.Token kind n → TokenOf t kind n
-    by_escape m l (Some before) g = absurd cc
-    by_escape m l None g = by_kind m l (literal_kind (take m t)) refl g
+        of_literal b (l ∙ ap (λ y. Some y) is) (subst (λ y. bad_escape false 0 (take y t) ≡ None) is x) (subst (λ y. literal_kind (take y t) ≡ Some kind) is (k ∙ ap (λ y. Some y) same))
 
     no_fault : (code : Code) (before detail : ℕ) → first.Fault code before detail ≡ first.Token kind n → TokenOf t kind n
     no_fault code before detail g = absurd cc
@@ -83,19 +79,18 @@ token_of t _ kind n (literal b) e = by_length (literal_length t) refl
     either true x y f h g = f g
     either false x y f h g = h g
 
-    by_character : (m : ℕ) → literal_length t ≡ Some m → character_first (take m t) ≡ first.Token kind n → TokenOf t kind n
-    by_character m l =
-        either (has_bad_escape (take m t)) _ _ (no_fault BadEscape 1 0)
-        (either (is_tab (take m t)) _ _ (no_fault Tab 1 0) (by_kind m l (literal_kind (take m t)) refl))
-
-    by_closed : (m : ℕ) → literal_length t ≡ Some m → closed_first (take m t) ≡ first.Token kind n → TokenOf t kind n
-    by_closed m l = either (begins_text (take m t)) _ _ (by_escape m l (bad_escape false 0 (take m t))) (by_character m l)
+    by_escape : (m : ℕ) → literal_length t ≡ Some m → (k : Option ℕ) → bad_escape false 0 (take m t) ≡ k → escape_first (take m t) k ≡ first.Token kind n → TokenOf t kind n
+    by_escape m l (Some before) x = either (begins_text (take m t) || before == 1) _ _ (no_fault BadEscape before 0) (no_fault Syntax 0 0)
+    by_escape m l None x = either (is_tab (take m t)) _ _ (no_fault Tab 1 0) (by_kind m l x (literal_kind (take m t)) refl)
 
     by_length : (k : Option ℕ) → literal_length t ≡ k → TokenOf t kind n
     by_length None l = let g : length_first t None ≡ first.Token kind n = ap (length_first t) (sym l) ∙ e in absurd cc
     by_length (Some m) l =
         let g : length_first t (Some m) ≡ first.Token kind n = ap (length_first t) (sym l) ∙ e in
-        by_closed m l g
+        by_escape m l (bad_escape false 0 (take m t)) refl g
+
+pub token_is : (t : List ℕ) (kind : Kind) (n : ℕ) → IsFirst t (first.Token kind n) → TokenOf t kind n
+token_is t kind n f = token_of t (first.Token kind n) kind n f refl
 
 -- a token has some bytes, and what follows it is a text
 pub record Cut (t : List ℕ) (n : ℕ) : Type 0 where
@@ -105,10 +100,10 @@ pub record Cut (t : List ℕ) (n : ℕ) : Type 0 where
   pub after : IsUtf8 t → IsUtf8 (drop n t)
 
 pub token_cut : (t : List ℕ) (kind : Kind) (n : ℕ) → IsFirst t (first.Token kind n) → Cut t n
-token_cut t kind n f = at (token_of t (first.Token kind n) kind n f refl)
+token_cut t kind n f = at (token_is t kind n f)
   where
     at : TokenOf t kind n → Cut t n
-    at (of_literal b l k) =
+    at (of_literal b l x k) =
         let parts = literal_parts t n (literal_ended t n b l) in
         record { some = parts.some; within = parts.within; long = parts.long; after = parts.after }
     at (of_piece long c k) =

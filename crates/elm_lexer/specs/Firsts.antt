@@ -1,5 +1,5 @@
 -- What a text begins with, where that is no gap: a token or a fault.
-use Rattle.std.specs.Prelude.{◌≡◌, ◌≤◌, ℕ, zero, suc, false, if◌then◌else◌, ◌==◌, List, [], ◌∷◌, ◌++◌, length, take, Option, Some, None, IsTrue, IsFalse}
+use Rattle.std.specs.Prelude.{◌≡◌, ◌≤◌, ℕ, zero, suc, false, if◌then◌else◌, ◌==◌, ◌||◌, List, [], ◌∷◌, ◌++◌, length, take, Option, Some, None, IsTrue, IsFalse}
 use Rattle.std.specs.Str.{chars}
 use Rattle.elm_base.specs.declared.fault.Code.{Code}
 use Rattle.elm_base.specs.declared.fault.Code.TheVariants.{Tab, Syntax, BadEscape, Unclosed}
@@ -9,7 +9,7 @@ use Rattle.elm_lexer.specs.declared.first.First.TheVariants.{Token, Fault}
 use Rattle.elm_lexer.specs.Lengths.{piece_length}
 use Rattle.elm_lexer.specs.Pieces.{SpellsPiece, IsCut}
 use Rattle.elm_lexer.specs.Kinds.{kind_of, fault_of, detail_of}
-use Rattle.elm_lexer.specs.Literals.{begins_literal, literal_length, bad_escape, begins_text, has_bad_escape, is_tab, literal_kind}
+use Rattle.elm_lexer.specs.Literals.{begins_literal, literal_length, bad_escape, begins_text, is_tab, literal_kind}
 
 -- a piece is a token, or its fault stands at its start
 abbrev pub piece_first : List ℕ → Option Kind → First
@@ -21,29 +21,27 @@ abbrev pub stray_code : List ℕ → Code
 stray_code [] = Syntax
 stray_code (c ∷ cs) = if c == 9 then Tab else Syntax
 
--- a literal whose escapes are good
+-- a literal whose escapes are good, and which is no tab
 abbrev pub kind_first : List ℕ → Option Kind → First
 kind_first literal (Some kind) = Token kind (length literal)
 kind_first literal None = Fault Syntax 0 0
 
--- a text that has an end, and perhaps a bad escape after so many bytes
+-- a literal whose escapes are good
+abbrev pub good_first : List ℕ → First
+good_first literal = if is_tab literal then Fault Tab 1 0 else kind_first literal (literal_kind literal)
+
+-- a literal with a bad escape after so many bytes: in a character it stands first, or it is one of two
+abbrev pub bad_first : List ℕ → ℕ → First
+bad_first literal before = if begins_text literal || before == 1 then Fault BadEscape before 0 else Fault Syntax 0 0
+
+-- a literal that has an end, and where its first bad escape stands, if it has one
 abbrev pub escape_first : List ℕ → Option ℕ → First
-escape_first literal (Some before) = Fault BadEscape before 0
-escape_first literal None = kind_first literal (literal_kind literal)
-
--- a character that has an end: a bad escape and a tab are faults of their own
-abbrev pub character_first : List ℕ → First
-character_first literal =
-    if has_bad_escape literal then Fault BadEscape 1 0
-    else (if is_tab literal then Fault Tab 1 0 else kind_first literal (literal_kind literal))
-
--- a literal that has an end
-abbrev pub closed_first : List ℕ → First
-closed_first literal = if begins_text literal then escape_first literal (bad_escape false 0 literal) else character_first literal
+escape_first literal (Some before) = bad_first literal before
+escape_first literal None = good_first literal
 
 -- a literal, and its length if it has an end
 abbrev pub length_first : List ℕ → Option ℕ → First
-length_first text (Some n) = closed_first (take n text)
+length_first text (Some n) = escape_first (take n text) (bad_escape false 0 (take n text))
 length_first text None = Fault Unclosed 0 0
 
 abbrev pub literal_first : List ℕ → First

@@ -9,3 +9,4 @@ pub mod Tokens
 pub mod View
 pub mod Lengths
 pub mod Names
+pub mod Values

@@ -99,14 +99,9 @@ abbrev pub begins_text : List ℕ → Bool
 begins_text [] = false
 begins_text (c ∷ cs) = c == 34
 
--- a character whose backslash begins no escape
-abbrev pub has_bad_escape : List ℕ → Bool
-has_bad_escape (quote ∷ c ∷ cs) = c == 92 && not (begins_escape cs)
-has_bad_escape _ = false
-
--- a tab (9) alone stands between the quotes
+-- a character that is a tab (9)
 abbrev pub is_tab : List ℕ → Bool
-is_tab (quote ∷ c ∷ cs) = c == 9 && is_quote cs
+is_tab (q ∷ c ∷ cs) = q == 39 && (c == 9 && is_quote cs)
 is_tab _ = false
 
 -- the kind of a literal, if it is a token

@@ -4,12 +4,12 @@ ghost use Rattle.std.specs.Prelude.{◌≡◌, false, ◌<◌, ◌≤◌, ◌^�
 ghost use Rattle.std.specs.Str.{chars};
 ghost use Rattle.elm_lexer.specs.Kinds.{kind_of as the_kind};
 ghost use Rattle.elm_lexer.specs.Literals.{bad_escape as the_escape, literal_kind as the_literal_kind};
-ghost use Rattle.elm_lexer.specs.Firsts.{piece_first, stray_code, kind_first, escape_first, character_first, closed_first, literal_first, IsWithin, first_in};
+ghost use Rattle.elm_lexer.specs.Firsts.{piece_first, stray_code, kind_first, good_first, bad_first, escape_first, literal_first, IsWithin, first_in};
 
 use crate::first::First;
 use crate::kind::{detail_length, fault_of, kind_of};
 use crate::literal::{
-    bad_escape, begins_literal, begins_text, has_bad_escape, is_tab, literal_kind, literal_length,
+    bad_escape, begins_literal, begins_text, is_tab, literal_kind, literal_length,
 };
 use crate::piece::piece_length;
 use elm_base::fault::Code;
@@ -46,40 +46,39 @@ fn kind_first(literal: &[u8]) -> First
     }
 }
 
-/// What a text is that has an end.
-fn escape_first(literal: &[u8]) -> First
-    ensures value { result ≡ escape_first literal.now (the_escape false 0 literal.now) }
+/// What a literal is whose escapes are good. The tab has a fault of its own.
+fn good_first(literal: &[u8]) -> First
+    ensures value { result ≡ good_first literal.now }
     ensures within { IsWithin result (length literal.now) }
 {
-    match bad_escape(literal) {
-        Some(before) => First::Fault(Code::BadEscape, before, 0),
-        None => kind_first(literal),
-    }
-}
-
-/// What a character is that has an end.
-fn character_first(literal: &[u8]) -> First
-    ensures value { result ≡ character_first literal.now }
-    ensures within { IsWithin result (length literal.now) }
-{
-    if has_bad_escape(literal) {
-        First::Fault(Code::BadEscape, 1, 0)
-    } else if is_tab(literal) {
+    if is_tab(literal) {
         First::Fault(Code::Tab, 1, 0)
     } else {
         kind_first(literal)
     }
 }
 
-/// What a literal is that has an end.
-fn closed_first(literal: &[u8]) -> First
-    ensures value { result ≡ closed_first literal.now }
+/// What a literal is whose first bad escape stands after `before` bytes.
+fn bad_first(literal: &[u8], before: usize) -> First
+    requires { before ≤ length literal.now }
+    ensures value { result ≡ bad_first literal.now before }
     ensures within { IsWithin result (length literal.now) }
 {
-    if begins_text(literal) {
-        escape_first(literal)
+    if begins_text(literal) || before == 1 {
+        First::Fault(Code::BadEscape, before, 0)
     } else {
-        character_first(literal)
+        First::Fault(Code::Syntax, 0, 0)
+    }
+}
+
+/// What a literal is that has an end.
+fn escape_first(literal: &[u8]) -> First
+    ensures value { result ≡ escape_first literal.now (the_escape false 0 literal.now) }
+    ensures within { IsWithin result (length literal.now) }
+{
+    match bad_escape(literal) {
+        Some(before) => bad_first(literal, before),
+        None => good_first(literal),
     }
 }
 
@@ -90,7 +89,7 @@ fn literal_first(text: &[u8]) -> First
     ensures within { IsWithin result (length text.now) }
 {
     match literal_length(text) {
-        Some(length) => closed_first(&text[..length]),
+        Some(length) => escape_first(&text[..length]),
         None => First::Fault(Code::Unclosed, 0, 0),
     }
 }

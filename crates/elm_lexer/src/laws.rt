@@ -2,6 +2,7 @@
 
 ghost use Rattle.std.specs.Prelude.{◌≡◌, ℕ, List, ◌⊎◌};
 ghost use Rattle.elm_lexer.specs.Names.{AreNames, AreValues};
+ghost use Rattle.elm_lexer.specs.Values.{AreSpelled};
 ghost use Rattle.elm_lexer.specs.Tokens.{Fault, HasFault, HasTokens, IsFaulty, Token, Tokens};
 
 /// A text has at most one list of tokens.
@@ -33,4 +34,10 @@ pub fn names_law()
 /// The text of each token that is a text or a character is a literal, which has a value.
 pub fn values_law()
     ensures { (text : List ℕ) (ts : List Token) → Tokens text ts → AreValues ts }
+{}
+
+/// Each text spells its value: its escapes are those of the language, and its units are what its characters and
+/// escapes stand for.
+pub fn spelled_law()
+    ensures { (text : List ℕ) (ts : List Token) → Tokens text ts → AreSpelled ts }
 {}

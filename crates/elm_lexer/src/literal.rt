@@ -2,7 +2,7 @@
 
 ghost use Rattle.std.specs.Prelude.{◌≡◌, ◌≤◌, ◌<◌, ◌+◌, ◌^◌, false, length, not, ◌&&◌, IsTrue, IfSome, codes};
 ghost use Rattle.elm_lexer.specs.Characters.{is_among};
-ghost use Rattle.elm_lexer.specs.Literals.{begins_literal, begins_lines, escapes, closes, line_length, lines_length, literal_length, ends_code, begins_code, begins_escape, bad_escape, is_quote, is_code_and_quote, is_escape_and_quote, is_rest_and_quote, is_character, begins_text, has_bad_escape, is_tab, literal_kind};
+ghost use Rattle.elm_lexer.specs.Literals.{begins_literal, begins_lines, escapes, closes, line_length, lines_length, literal_length, ends_code, begins_code, begins_escape, bad_escape, is_quote, is_code_and_quote, is_escape_and_quote, is_rest_and_quote, is_character, begins_text, is_tab, literal_kind};
 
 use crate::characters::{is_continuing, is_hex_digit};
 use crate::kind::digit_value;
@@ -262,24 +262,13 @@ pub(crate) fn begins_text(literal: &[u8]) -> bool
     }
 }
 
-/// Whether the backslash of a character begins no escape.
-pub(crate) fn has_bad_escape(literal: &[u8]) -> bool
-    ensures value { result ≡ has_bad_escape literal.now }
-    ensures long { IsTrue result → 2 ≤ length literal.now }
-{
-    match literal {
-        [_, c, after @ ..] => is_bad_escape(*c == b'\\', after),
-        _ => false,
-    }
-}
-
-/// Whether a tab alone stands between the quotes.
+/// Whether the literal is the character of a tab.
 pub(crate) fn is_tab(literal: &[u8]) -> bool
     ensures value { result ≡ is_tab literal.now }
     ensures long { IsTrue result → 2 ≤ length literal.now }
 {
     match literal {
-        [_, c, after @ ..] => *c == b'\t' && is_quote(after),
+        [quote, c, after @ ..] => *quote == b'\'' && *c == b'\t' && is_quote(after),
         _ => false,
     }
 }

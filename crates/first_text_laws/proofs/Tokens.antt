@@ -10,10 +10,9 @@ use Rattle.elm_lexer.specs.declared.token.Kind.TheVariants.{Int, Text, Char, Low
 use Rattle.elm_lexer.specs.Characters.{is_letter, is_digit, is_mark, is_operator_char}
 use Rattle.elm_lexer.specs.Kinds.{kind_in, reserved_kinds, marks, operators, begins_upper, begins_field, field_of, field_kind, last_word, name_kind, number_value, int_of, wildcard_kind, kind_of}
 use Rattle.elm_lexer.specs.Literals.{is_character, literal_kind}
-use Rattle.elm_lexer.specs.declared.first.First.TheVariants as first
 use Rattle.elm_lexer.specs.Names.{SpellsName}
 use Rattle.elm_lexer.specs.Tokens.{Place, Token, Fault, Reads, no_more, gap, open_comment, token, fault, Tokens}
-use Rattle.elm_lexer.proofs.Starts.{TokenOf, of_piece, of_literal, token_of}
+use Rattle.elm_lexer.proofs.Starts.{TokenOf, of_piece, of_literal, token_is}
 use Rattle.elm_lexer.proofs.Names.{tokens_names}
 
 -- the kind of an integer has an exact one
@@ -120,13 +119,13 @@ AreExactTokens (t ∷ ts) = IsExactKind t.kind × AreExactTokens ts
 -- a token is no wrong integer
 token_exact : (t : List ℕ) (kind : Kind) (n : ℕ) → TokenOf t kind n → IsExactKind kind
 token_exact t kind n (of_piece long c k) = subst IfExactKind k (piece_exact (take n t))
-token_exact t kind n (of_literal b l k) = subst IfExactKind k (literal_exact (take n t))
+token_exact t kind n (of_literal b l x k) = subst IfExactKind k (literal_exact (take n t))
 
 cut_exact : {p : Place} {touched : Bool} {text : List ℕ} {ts : List Token} {end : Option Fault} → Reads p touched text ts end → AreExactTokens ts
 cut_exact no_more = tt
 cut_exact (gap body g h) = cut_exact h
 cut_exact (open_comment b never) = tt
-cut_exact (token {text = text} {kind = kind} {n = n} b f h) = (token_exact text kind n (token_of text (first.Token kind n) kind n f refl), cut_exact h)
+cut_exact (token {text = text} {kind = kind} {n = n} b f h) = (token_exact text kind n (token_is text kind n f), cut_exact h)
 cut_exact (fault b f) = tt
 
 -- both
