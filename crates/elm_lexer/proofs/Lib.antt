@@ -3,9 +3,15 @@ pub mod Blocks
 pub mod Runs
 pub mod Pieces
 pub mod Texts
+pub mod Ends
+pub mod Starts
 pub mod Walks
+pub mod Scans
 pub mod Steps
 pub mod Numbers
-pub mod Loop
 pub mod Same
+pub mod Loop
 pub mod Names
+pub mod Total
+pub mod Values
+pub mod Spelled

@@ -1,29 +1,30 @@
--- The loop over a text: what was found, and then what the rest has, is all that the text has.
-use Rattle.std.proofs.Common.{◌≡◌, ℕ, suc, zero, ◌-◌, ◌<◌, ◌≤◌, List, [], ◌∷◌, ◌++◌, length, take, drop, map, Bool, true, false, Some, None, sym, refl, ap, subst, ◌∙◌, arith, append_assoc, append-nil, length-append}
-use Rattle.std.proofs.Common.{Result, Ok, Err, MatchResult, ◌==◌}
-use Rattle.std.specs.Result.{is_err}
+-- The loop over a text: what was found, and then what the rest has, is what the text has.
+use Rattle.std.proofs.Common.{◌≡◌, ℕ, ◌-◌, ◌<◌, List, [], ◌∷◌, ◌++◌, length, take, drop, map, Bool, true, false, Option, None, sym, refl, ap, subst, ◌∙◌, arith, append_assoc, append-nil, length-append}
+use Rattle.std.proofs.Common.{◌==◌}
 use Rattle.std.proofs.lemmas.Bool.Decides.{nat_tests}
+use Rattle.std.specs.Str.{IsUtf8, IsCharBoundary}
+use Rattle.std.proofs.lemmas.Str.{IsCharBoundary-from_drop, IsCharBoundary-at_seam}
+use Rattle.elm_base.specs.declared.fault.Code.{Code}
+use Rattle.elm_base.specs.declared.fault.Code.TheVariants as fault_code
 use Rattle.elm_lexer.specs.declared.token.Kind.{Kind}
+use Rattle.elm_lexer.specs.declared.first.First.{First}
+use Rattle.elm_lexer.specs.declared.first.First.TheVariants as first
+use Rattle.elm_lexer.specs.Firsts.{IsFirst, first_in}
 use Rattle.elm_lexer.specs.Gaps.{begins_gap, IsGap}
-use Rattle.elm_lexer.specs.Kinds.{kind_of}
-use Rattle.std.specs.Str.{IsUtf8, IsCharBoundary, chars}
-use Rattle.std.proofs.lemmas.Str.{IsCharBoundary-start, IsCharBoundary-from_take, IsCharBoundary-at_seam}
-use Rattle.elm_lexer.specs.Lengths.{piece_length}
-use Rattle.elm_lexer.specs.Tokens.{Place, Token, behind, token_at, AreTokens, no_more, first_place}
+use Rattle.elm_lexer.specs.Tokens.{Place, Token, Fault, behind, token_at, fault_at, Reads, no_more, open_comment, token, first_place, HasFault, not_utf8, ends}
 use Rattle.elm_lexer.proofs.Basics.{front_of}
 use Rattle.elm_lexer.proofs.Blocks.{gap_end}
-use Rattle.elm_lexer.proofs.Pieces.{cut_is}
+use Rattle.elm_lexer.proofs.Starts.{first_is, token_cut}
 use Rattle.elm_lexer.proofs.Texts.{gap_text}
-use Rattle.elm_lexer.proofs.Steps.{gap_whole, gap_only, gap_never, token_whole, token_only, token_never, end_only}
+use Rattle.elm_lexer.proofs.Steps.{gap_whole, fault_whole}
 
--- the tokens of the text are those found and then those of the rest
+-- the tokens of the text are those found and then those of the rest, and it ends as the rest does
 pub record Cuts (text : List ℕ) (found : List Token) (p : Place) (touched : Bool) (rest : List ℕ) : Type 0 where
-  pub whole : (ts : List Token) → AreTokens p touched rest ts → AreTokens first_place false text (found ++ ts)
-  pub only : (us : List Token) → AreTokens first_place false text us → (ts : List Token) × (us ≡ found ++ ts) × AreTokens p touched rest ts
+  pub whole : (ts : List Token) (end : Option Fault) → Reads p touched rest ts end → Reads first_place false text (found ++ ts) end
 
 -- before the first turn nothing is found
 pub cuts_start : (text whole : List ℕ) (found : List Token) → whole ≡ text → found ≡ [] → Cuts text found first_place false whole
-cuts_start text whole found e f = subst (λ x. Cuts text x first_place false whole) (sym f) (subst (λ x. Cuts text [] first_place false x) (sym e) (record { whole = λ ts h. h; only = λ us h. (us, refl, h) }))
+cuts_start text whole found e f = subst (λ x. Cuts text x first_place false whole) (sym f) (subst (λ x. Cuts text [] first_place false x) (sym e) (record { whole = λ ts end h. h }))
 
 -- what a gap takes of the text
 gap_body : (t r : List ℕ) → IsGap t r → t ≡ take (length t - length r) t ++ r
@@ -34,44 +35,46 @@ gap_body t r g = let w = gap_end t r g in at w.0 w.1
         let s = front_of t body r (length t - length r) e (omega (arith, length-append body r, ap length e)) in
         e ∙ ap (λ x. x ++ r) s.0
 
-pub gap_turn : (text : List ℕ) (found : List Token) (p q : Place) (touched : Bool) (t r body : List ℕ) → Cuts text found p touched t → IsGap t r → body ≡ take (length t - length r) t → q ≡ behind p body → Cuts text found q true r
-gap_turn text found p q touched t r body h g i e = subst (λ x. Cuts text found x true r) (sym e) (record { whole = whole; only = only })
+gap_turn : (text : List ℕ) (found : List Token) (p q : Place) (touched : Bool) (t r body : List ℕ) → Cuts text found p touched t → IsGap t r → body ≡ take (length t - length r) t → q ≡ behind p body → Cuts text found q true r
+gap_turn text found p q touched t r body h g i e = subst (λ x. Cuts text found x true r) (sym e) (record { whole = whole })
   where
     whole_text : t ≡ body ++ r
     whole_text = gap_body t r g ∙ ap (λ x. x ++ r) (sym i)
 
-    whole : (ts : List Token) → AreTokens (behind p body) true r ts → AreTokens first_place false text (found ++ ts)
-    whole ts k = h.whole ts (gap_whole p touched t r body ts whole_text g k)
+    whole : (ts : List Token) (end : Option Fault) → Reads (behind p body) true r ts end → Reads first_place false text (found ++ ts) end
+    whole ts end k = h.whole ts end (gap_whole p touched t r body ts end whole_text g k)
 
-    only : (us : List Token) → AreTokens first_place false text us → (ts : List Token) × (us ≡ found ++ ts) × AreTokens (behind p body) true r ts
-    only us k = let w = h.only us k in (w.0, w.1, gap_only p touched t r body w.0 whole_text g w.2)
-
-pub gap_fault : (text : List ℕ) (found : List Token) (p : Place) (touched : Bool) (t : List ℕ) → Cuts text found p touched t → begins_gap t ≡ true → ((r : List ℕ) → IsGap t r → ⊥) → (us : List Token) → AreTokens first_place false text us → ⊥
-gap_fault text found p touched t h b never us k = let w = h.only us k in gap_never p touched t w.0 b never w.2
-
-pub token_turn : (text : List ℕ) (found more : List Token) (p q : Place) (touched : Bool) (t piece rest : List ℕ) (kind : Kind) → Cuts text found p touched t → IsUtf8 t → begins_gap t ≡ false → 0 < length t → piece ≡ take (piece_length (chars t)) t → rest ≡ drop (piece_length (chars t)) t → kind_of piece ≡ Some kind → more ≡ found ++ token_at p touched piece kind rest ∷ [] → q ≡ behind p piece → Cuts text more q false rest
-token_turn text found more p q touched t piece rest kind h u b some i j k m e = subst (λ x. Cuts text more x false rest) (sym e) (subst (λ x. Cuts text x (behind p piece) false rest) (sym m) (record { whole = whole; only = only }))
+pub token_turn : (text : List ℕ) (found more : List Token) (p q : Place) (touched : Bool) (t rest : List ℕ) (kind : Kind) (n : ℕ) → Cuts text found p touched t → begins_gap t ≡ false → IsFirst t (first.Token kind n) → rest ≡ drop n t → more ≡ found ++ token_at p touched (take n t) kind (drop n t) ∷ [] → q ≡ behind p (take n t) → Cuts text more q false rest
+token_turn text found more p q touched t rest kind n h b f j m e =
+    subst (λ x. Cuts text more q false x) (sym j) (subst (λ x. Cuts text more x false (drop n t)) (sym e) (subst (λ x. Cuts text x (behind p (take n t)) false (drop n t)) (sym m) (record { whole = whole })))
   where
-    whole : (ts : List Token) → AreTokens (behind p piece) false rest ts → AreTokens first_place false text (found ++ token_at p touched piece kind rest ∷ [] ++ ts)
-    whole ts a =
-        subst (λ x. AreTokens first_place false text x) (sym (append_assoc found (token_at p touched piece kind rest ∷ []) ts))
-        (h.whole _ (token_whole p touched t piece rest kind ts u b i j k a))
+    whole : (ts : List Token) (end : Option Fault) → Reads (behind p (take n t)) false (drop n t) ts end → Reads first_place false text (found ++ token_at p touched (take n t) kind (drop n t) ∷ [] ++ ts) end
+    whole ts end a =
+        subst (λ x. Reads first_place false text x end) (sym (append_assoc found (token_at p touched (take n t) kind (drop n t) ∷ []) ts))
+        (h.whole _ end (token b f a))
 
-    only : (us : List Token) → AreTokens first_place false text us → (ts : List Token) × (us ≡ found ++ token_at p touched piece kind rest ∷ [] ++ ts) × AreTokens (behind p piece) false rest ts
-    only us a =
-        let v = h.only us a in
-        let w = token_only p touched t piece rest kind v.0 u b some i j k v.2 in
-        (w.0, v.1 ∙ ap (λ x. found ++ x) w.1 ∙ sym (append_assoc found (token_at p touched piece kind rest ∷ []) w.0), w.2)
+-- ---- the end of the text, and faults
 
-pub token_fault : (text : List ℕ) (found : List Token) (p : Place) (touched : Bool) (t piece : List ℕ) → Cuts text found p touched t → IsUtf8 t → begins_gap t ≡ false → 0 < length t → piece ≡ take (piece_length (chars t)) t → kind_of piece ≡ None → (us : List Token) → AreTokens first_place false text us → ⊥
-token_fault text found p touched t piece h u b some i k us a = let w = h.only us a in token_never p touched t piece w.0 u b some i k w.2
+pub end_found : (text : List ℕ) (found : List Token) (p : Place) (touched : Bool) (t : List ℕ) → Cuts text found p touched t → length t ≡ 0 → Reads first_place false text found None
+end_found text found p touched [] h e = subst (λ x. Reads first_place false text x None) (append-nil found) (h.whole [] None no_more)
+end_found text found p touched (c ∷ cs) h e = absurd (omega (arith, e))
 
-pub end_whole : (text : List ℕ) (found : List Token) (p : Place) (touched : Bool) (t : List ℕ) → Cuts text found p touched t → length t ≡ 0 → AreTokens first_place false text found
-end_whole text found p touched [] h e = subst (λ x. AreTokens first_place false text x) (append-nil found) (h.whole [] no_more)
-end_whole text found p touched (c ∷ cs) h e = absurd (omega (arith, e))
+pub open_found : (text : List ℕ) (found : List Token) (p : Place) (touched : Bool) (t : List ℕ) (f : Fault) → IsUtf8 text → Cuts text found p touched t → begins_gap t ≡ true → ((r : List ℕ) → IsGap t r → ⊥) → f ≡ fault_at p t fault_code.Unclosed 0 0 → HasFault text f
+open_found text found p touched t f u h b never e = subst (λ x. HasFault text x) (sym e) (ends (found ++ []) u (h.whole [] _ (open_comment b never)))
 
-pub end_same : (text : List ℕ) (found : List Token) (p : Place) (touched : Bool) (t : List ℕ) → Cuts text found p touched t → length t ≡ 0 → (us : List Token) → AreTokens first_place false text us → us ≡ found
-end_same text found p touched t h e us a = let w = h.only us a in w.1 ∙ ap (λ x. found ++ x) (end_only p touched t w.0 e w.2) ∙ append-nil found
+pub fault_found : (text : List ℕ) (found : List Token) (p : Place) (touched : Bool) (t : List ℕ) (c : Code) (before detail : ℕ) (f : Fault) → IsUtf8 text → Cuts text found p touched t → begins_gap t ≡ false → 0 < length t → IsFirst t (first.Fault c before detail) → f ≡ fault_at p t c before detail → HasFault text f
+fault_found text found p touched t c before detail f u h b some i e = subst (λ x. HasFault text x) (sym e) (ends (found ++ []) u (h.whole [] _ (fault_whole p touched t c before detail b some i)))
+
+-- bytes that are no characters
+pub no_text_found : (text : List ℕ) (f : Fault) → (IsUtf8 text → ⊥) → f ≡ fault_at first_place text fault_code.NotUtf8 0 0 → HasFault text f
+no_text_found text f never e = subst (λ x. HasFault text x) (sym (e ∙ ap at (nothing text))) (not_utf8 never)
+  where
+    nothing : (t : List ℕ) → take 0 t ≡ []
+    nothing [] = refl
+    nothing (c ∷ cs) = refl
+
+    at : List ℕ → Fault
+    at front = record { code = fault_code.NotUtf8; place = behind first_place front; detail = front }
 
 -- ---- from the program's tests
 
@@ -85,9 +88,9 @@ pub map_push : {A B : Type 0} (f : A → B) (xs : List A) (x : A) → map f (xs 
 map_push f [] x = refl
 map_push f (y ∷ ys) x = ap (λ (zs : List _). f y ∷ zs) (map_push f ys x)
 
-pub ok_part : {T E : Type 0} (A : T → Type 0) (B : Type 0) (C : E → Type 0) (r : Result T E) → MatchResult r (λ s. A s × B) C → false ≡ is_err r → B
-ok_part A B C (Ok s) h e = h.1
-ok_part A B C (Err s) h e = absurd cc
+-- what the program found is what the text begins with
+pub first_found : (t : List ℕ) (f g : First) → IsUtf8 t → f ≡ first_in t → f ≡ g → IsFirst t g
+first_found t f g u e k = subst (λ x. IsFirst t x) (sym e ∙ k) (first_is t u)
 
 -- ---- where the program cuts the text
 
@@ -111,13 +114,22 @@ gap_step text found p q touched t bytes r body rest n h u same g l i j e =
     let front : body ≡ take (length t - length r) t = i ∙ ap (λ k. take k bytes) l ∙ ap (λ x. take (length x - length r) x) same in
     subst (λ x. Cuts text found q true x) (cut.1 ∙ sym j) (gap_turn text found p q touched t r body h own front e)
 
-pub token_step : (text : List ℕ) (found more : List Token) (p q : Place) (touched : Bool) (t piece rest next : List ℕ) (kind : Kind) → Cuts text found p touched t → IsUtf8 t → begins_gap t ≡ false → 0 < length t → piece ≡ take (piece_length (chars t)) t → rest ≡ drop (piece_length (chars t)) t → kind_of piece ≡ Some kind → more ≡ found ++ token_at p touched piece kind rest ∷ [] → q ≡ behind p piece → rest ≡ next → Cuts text more q false next
-token_step text found more p q touched t piece rest next kind h u b some i j k m e same =
-    subst (λ x. Cuts text more q false x) same (token_turn text found more p q touched t piece rest kind h u b some i j k m e)
+-- a token ends between characters too
+pub token_boundary : (t : List ℕ) (kind : Kind) (n : ℕ) → IsUtf8 t → IsFirst t (first.Token kind n) → IsCharBoundary t n
+token_boundary t kind n u f = let c = token_cut t kind n f in IsCharBoundary-from_drop t n c.within (c.after u)
 
--- a piece ends between characters too
-pub piece_cut : (t : List ℕ) (n : ℕ) → IsUtf8 t → n ≡ piece_length (chars t) → n ≤ length t → IsCharBoundary t n
-piece_cut t zero u e l = IsCharBoundary-start t u
-piece_cut t (suc n) u e l =
-    let c = cut_is t u (omega (arith, e)) in
-    IsCharBoundary-from_take t (suc n) u l (subst (λ k. IsUtf8 (take k t)) (sym e) c.is_piece.0)
+-- a token by its parts
+abbrev pub token_made : Place → Bool → Kind → List ℕ → Bool → Token
+token_made p touched kind piece b = record { kind = kind; text = piece; start = p; space_before = touched; space_after = b }
+
+pub token_step : (text : List ℕ) (found more : List Token) (p q : Place) (touched b : Bool) (t bytes piece after rest : List ℕ) (kind : Kind) (n : ℕ) → Cuts text found p touched t → bytes ≡ t → begins_gap bytes ≡ false → IsFirst t (first.Token kind n) → piece ≡ take n bytes → after ≡ drop n bytes → b ≡ begins_gap after → more ≡ found ++ token_made p touched kind piece b ∷ [] → q ≡ behind p piece → rest ≡ drop n t → Cuts text more q false rest
+token_step text found more p q touched b t bytes piece after rest kind n h same gap f i j k m e l =
+    token_turn text found more p q touched t rest kind n h (ap begins_gap (sym same) ∙ gap) f l (m ∙ ap (λ (x : Token). found ++ x ∷ []) made) (e ∙ ap (λ x. behind p x) front)
+  where
+    front : piece ≡ take n t
+    front = i ∙ ap (λ (x : List ℕ). take n x) same
+
+    made : token_made p touched kind piece b ≡ token_at p touched (take n t) kind (drop n t)
+    made =
+        ap (λ (x : List ℕ). token_made p touched kind x b) front
+        ∙ ap (λ (x : Bool). token_made p touched kind (take n t) x) (k ∙ ap begins_gap (j ∙ ap (λ (x : List ℕ). drop n x) same))

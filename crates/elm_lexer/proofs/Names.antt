@@ -1,6 +1,6 @@
 -- Each name without points among the tokens is a word.
-use Rattle.std.proofs.Common.{◌≡◌, ℕ, ◌<◌, List, [], ◌∷◌, ◌++◌, Bool, true, false, Option, Some, None, nat_le, ◌||◌, refl, sym, ap, subst, ◌∙◌, arith}
-use Rattle.std.specs.Prelude.{if◌then◌else◌, option_and_then, ◌==◌, codes, encode_utf8_all, ⊤}
+use Rattle.std.proofs.Common.{◌≡◌, ℕ, ◌<◌, List, [], ◌∷◌, ◌++◌, take, drop, Bool, true, false, Option, Some, None, nat_le, ◌||◌, refl, sym, ap, subst, ◌∙◌, arith}
+use Rattle.std.specs.Prelude.{if◌then◌else◌, option_and_then, ◌==◌, encode_utf8_all, ⊤}
 use Rattle.std.specs.List.{list_any, list_all}
 use Rattle.std.specs.Str.{bytes_eq, IsUtf8, chars}
 use Rattle.std.proofs.lemmas.Bool.Decides.{nat_tests}
@@ -8,14 +8,16 @@ use Rattle.std.proofs.lemmas.List.Elements.{All-nil, All-cons}
 use Rattle.std.proofs.lemmas.Str.{encode_ascii, encodes-append, encodes-chars}
 use Rattle.elm_base.specs.Path.{is_name_char}
 use Rattle.elm_lexer.specs.declared.token.Kind.{Kind}
-use Rattle.elm_lexer.specs.declared.token.Kind.TheVariants.{Int, LowerName, UpperName, QualifiedLower, QualifiedUpper, Backslash, Operator}
+use Rattle.elm_lexer.specs.declared.token.Kind.TheVariants.{Int, Text, Char, LowerName, UpperName, QualifiedLower, QualifiedUpper, Backslash, Operator}
 use Rattle.elm_lexer.specs.Characters.{is_letter, is_upper, is_lower, is_digit, is_mark, is_operator_char}
-use Rattle.elm_lexer.specs.Kinds.{kind_in, reserved_words, marks, operators, begins_upper, last_word, name_kind, number_value, int_of, wildcard_kind, kind_of}
-use Rattle.elm_lexer.specs.Pieces.{is_word, is_upper_word, IsName, word, joined, IsPiece, name, number, wildcard, mark, operator, SpellsPiece}
+use Rattle.elm_lexer.specs.Kinds.{kind_in, reserved_kinds, marks, operators, begins_upper, begins_field, field_of, field_kind, last_word, name_kind, number_value, int_of, wildcard_kind, kind_of}
+use Rattle.elm_lexer.specs.Literals.{is_character, literal_kind}
+use Rattle.elm_lexer.specs.Pieces.{is_word, is_upper_word, IsName, word, joined, IsPiece, name, number, wildcard, field, mark, operator, SpellsPiece}
 use Rattle.elm_lexer.specs.Names.{is_lower_word, SpellsName, AreNames}
-use Rattle.elm_lexer.specs.Tokens.{Place, Token, AreTokens, no_more, gap, token, token_at, Tokens}
+use Rattle.elm_lexer.specs.Tokens.{Place, Token, Fault, Reads, no_more, gap, open_comment, token, fault, token_at, Tokens}
 use Rattle.elm_lexer.proofs.Basics.{and_true, both_true, true_false}
-use Rattle.elm_lexer.proofs.Pieces.{digit_letter, mark_other, operator_other, mark_below, operator_below}
+use Rattle.elm_lexer.proofs.Starts.{TokenOf, of_piece, of_literal, token_is}
+use Rattle.elm_lexer.proofs.Pieces.{digit_letter, mark_letter, operator_letter, mark_below, operator_below}
 
 -- the same of a kind, if there is one
 abbrev IfName : List ℕ → Option Kind → Type 0
@@ -43,7 +45,7 @@ in_table bytes [] piece other ps q = q
 in_table bytes (r ∷ rows) piece other ps q = either_kind bytes (bytes_eq piece r.0) _ _ _ refl (λ _. ps.0) (λ _. in_table bytes rows piece other ps.1 q)
 
 -- the tables have no names
-reserved_rows : (bytes : List ℕ) → AreRows bytes reserved_words
+reserved_rows : (bytes : List ℕ) → AreRows bytes reserved_kinds
 reserved_rows bytes = (tt, (tt, (tt, (tt, (tt, (tt, (tt, (tt, (tt, (tt, (tt, (tt, (tt, (tt, tt))))))))))))))
 
 marks_rows : (bytes : List ℕ) → AreRows bytes marks
@@ -75,8 +77,9 @@ letter_name : (b : ℕ) (bs cs : List ℕ) → is_letter b ≡ true → encode_u
 letter_name b bs _ l e (name h) = h
 letter_name b bs _ l e (number {c} {cs} d h) = not_letter c b cs bs (digit_below c d) e l (digit_letter c d)
 letter_name b bs _ l e (wildcard {cs} h) = not_letter 95 b cs bs (omega arith) e l refl
-letter_name b bs _ l e (mark {c} m) = not_letter c b [] bs (mark_below c m) e l (mark_other c m).0
-letter_name b bs _ l e (operator {c} {cs} o h) = not_letter c b cs bs (operator_below c o) e l (operator_other c o).0
+letter_name b bs _ l e (field {c} {cs} k h) = not_letter 46 b (c ∷ cs) bs (omega arith) e l refl
+letter_name b bs _ l e (mark {c} m) = not_letter c b [] bs (mark_below c m) e l (mark_letter c m)
+letter_name b bs _ l e (operator {c} {cs} o h) = not_letter c b cs bs (operator_below c o) e l (operator_letter c o)
 
 any_middle : (f : ℕ → Bool) (xs : List ℕ) (y : ℕ) (ys : List ℕ) → f y ≡ true → list_any f (xs ++ y ∷ ys) ≡ true
 any_middle f [] y ys e = rw e refl
@@ -110,7 +113,7 @@ name_spelled : (b : ℕ) (bs cs : List ℕ) → cs ≡ chars (b ∷ bs) → IsUt
 name_spelled b bs cs i u e h =
     either_kind (b ∷ bs) (list_any (λ c. c == 46) (b ∷ bs)) _ _ _ refl
     (λ _. either_kind (b ∷ bs) (begins_upper (last_word (b ∷ bs) (b ∷ bs))) _ QualifiedUpper QualifiedLower refl (λ _. tt) (λ _. tt))
-    (λ n. in_table (b ∷ bs) reserved_words (b ∷ bs) _ (reserved_rows (b ∷ bs)) (plain (pointless cs h (ap (list_any (λ c. c == 46)) e ∙ n))))
+    (λ n. in_table (b ∷ bs) reserved_kinds (b ∷ bs) _ (reserved_rows (b ∷ bs)) (plain (pointless cs h (ap (list_any (λ c. c == 46)) e ∙ n))))
   where
     plain : is_word cs ≡ true → SpellsName (if is_upper b then UpperName else LowerName) (b ∷ bs)
     plain w =
@@ -128,6 +131,11 @@ wildcard_spelled : (bytes cs : List ℕ) → IfName bytes (wildcard_kind cs)
 wildcard_spelled bytes [] = tt
 wildcard_spelled bytes (c ∷ cs) = tt
 
+-- a field is no name
+field_spelled : (bytes : List ℕ) (k : Kind) → IfName bytes (field_of k)
+field_spelled bytes LowerName = tt
+field_spelled bytes _ = tt
+
 piece_spelled : (piece : List ℕ) → SpellsPiece piece → IfName piece (kind_of piece)
 piece_spelled [] h = tt
 piece_spelled (b ∷ bs) h =
@@ -135,16 +143,28 @@ piece_spelled (b ∷ bs) h =
     if_either _ (is_letter b) _ (Some (name_kind (b ∷ bs))) _ refl (λ l. name_spelled b bs (chars (b ∷ bs)) refl h.0 e (letter_name b bs (chars (b ∷ bs)) l e h.1))
     (if_either _ (is_digit b) _ _ _ refl (λ _. number_spelled _ (number_value (b ∷ bs)))
     (if_either _ (b == 95) _ _ _ refl (λ _. wildcard_spelled _ bs)
+    (if_either _ (begins_field (b ∷ bs)) _ (field_kind bs) _ refl (λ _. field_spelled (b ∷ bs) (kind_in reserved_kinds bs LowerName))
     (if_either _ (is_mark b) _ (Some (kind_in marks (b ∷ bs) Backslash)) _ refl (λ _. in_table (b ∷ bs) marks (b ∷ bs) Backslash (marks_rows (b ∷ bs)) tt)
-    (if_either _ (is_operator_char b) _ (Some (kind_in operators (b ∷ bs) Operator)) None refl (λ _. in_table (b ∷ bs) operators (b ∷ bs) Operator (operators_rows (b ∷ bs)) tt) tt))))
+    (if_either _ (is_operator_char b) _ (Some (kind_in operators (b ∷ bs) Operator)) None refl (λ _. in_table (b ∷ bs) operators (b ∷ bs) Operator (operators_rows (b ∷ bs)) tt) tt)))))
 
 -- ---- tokens
 
-cut_names : {p : Place} {touched : Bool} {text : List ℕ} {ts : List Token} → AreTokens p touched text ts → AreNames ts
+-- a literal is no name
+literal_spelled : (bytes literal : List ℕ) → IfName bytes (literal_kind literal)
+literal_spelled bytes [] = tt
+literal_spelled bytes (c ∷ cs) = if_either bytes (c == 34) _ (Some Text) _ refl (λ _. tt) (if_either bytes (is_character (c ∷ cs)) _ (Some Char) None refl (λ _. tt) tt)
+
+token_spelled : (t : List ℕ) (kind : Kind) (n : ℕ) → TokenOf t kind n → SpellsName kind (take n t)
+token_spelled t kind n (of_piece long c k) = subst (λ x. IfName (take n t) x) k (piece_spelled (take n t) c.is_piece)
+token_spelled t kind n (of_literal b l x k) = subst (λ x. IfName (take n t) x) k (literal_spelled (take n t) (take n t))
+
+cut_names : {p : Place} {touched : Bool} {text : List ℕ} {ts : List Token} {end : Option Fault} → Reads p touched text ts end → AreNames ts
 cut_names no_more = All-nil (λ (t : Token). SpellsName t.kind t.text)
 cut_names (gap body g h) = cut_names h
-cut_names (token {p = p} {touched = touched} {piece = piece} {rest = rest} {kind = kind} {ts = ts} b c k h) =
-    All-cons (λ (t : Token). SpellsName t.kind t.text) (token_at p touched piece kind rest) ts (subst (λ x. IfName piece x) k (piece_spelled piece c.is_piece)) (cut_names h)
+cut_names (open_comment b never) = All-nil (λ (t : Token). SpellsName t.kind t.text)
+cut_names (token {p = p} {touched = touched} {text = text} {kind = kind} {n = n} {ts = ts} b f h) =
+    All-cons (λ (t : Token). SpellsName t.kind t.text) (token_at p touched (take n text) kind (drop n text)) ts (token_spelled text kind n (token_is text kind n f)) (cut_names h)
+cut_names (fault b f) = All-nil (λ (t : Token). SpellsName t.kind t.text)
 
 pub tokens_names : (text : List ℕ) (ts : List Token) → Tokens text ts → AreNames ts
 tokens_names text ts h = cut_names h.1

@@ -6,9 +6,11 @@ use Rattle.std.specs.Prelude.{encode_utf8_all}
 use Rattle.std.specs.Char.{encode_utf8}
 use Rattle.std.specs.List.{list_all}
 use Rattle.elm_base.specs.Path.{is_name_char}
-use Rattle.elm_lexer.specs.Characters.{is_letter, is_upper}
-use Rattle.elm_lexer.specs.Kinds.{begins_upper}
-use Rattle.elm_lexer.specs.Lengths.{run, begins_letter, name_run}
+use Rattle.elm_lexer.specs.declared.part.Part.{Part}
+use Rattle.elm_lexer.specs.Characters.{is_letter, is_upper, is_lower, is_digit}
+use Rattle.elm_lexer.specs.Kinds.{begins_upper, begins_lower}
+use Rattle.elm_lexer.specs.Lengths.{run, begins_letter, name_run, number_run}
+use Rattle.elm_lexer.specs.Numbers.{begins_digit, after_name_char, after_joint, may_join, is_joint, goes_on_number}
 use Rattle.elm_lexer.specs.Pieces.{is_word, is_upper_word, IsName, word, joined}
 use Rattle.elm_lexer.proofs.Basics.{and_true, both_true, or_left, eq_true}
 
@@ -193,3 +195,78 @@ name_goes _ (joined w {name} h k) = first w h (name_goes name k)
         let v = and_true (is_upper c) (list_all is_name_char cs) h in
         let u = upper_letter c v.0 in
         (u, subst (λ b. goes b (c ∷ (cs ++ 46 ∷ name)) ≡ true) (sym v.0) (goes_char true c (cs ++ 46 ∷ name) (letter_name c u) (join_goes cs name v.1 later.0 later.1)))
+
+-- ---- words in lower case
+
+lower_name : (c : ℕ) → is_lower c ≡ true → is_name_char c ≡ true
+lower_name c e = grind (arith, nat_tests)
+
+pub all_lower : (c : ℕ) (cs : List ℕ) → is_lower c ≡ true → list_all is_name_char cs ≡ true → list_all is_name_char (c ∷ cs) ≡ true
+all_lower c cs e h = both_true _ _ (lower_name c e) h
+
+-- a lower-case letter begins a run
+pub run-lower : (cs : List ℕ) → begins_lower cs ≡ true → 0 < run is_name_char cs
+run-lower [] e = absurd cc
+run-lower (c ∷ cs) e = let n = lower_name c e in rw n (omega (arith, char_some c))
+
+-- ---- numbers
+
+digit_name : (c : ℕ) → is_digit c ≡ true → is_name_char c ≡ true
+digit_name c e = grind (arith, nat_tests)
+
+number_run-digit : (part : Part) (cs : List ℕ) → begins_digit cs ≡ true → 0 < number_run part cs
+number_run-digit part [] e = absurd cc
+number_run-digit part (c ∷ cs) e = let n = digit_name c e in rw n (omega (arith, char_some c))
+
+same_digit : (t p r : List ℕ) → t ≡ p ++ r → 0 < length p → begins_digit p ≡ begins_digit t
+same_digit t [] r e l = absurd (omega arith)
+same_digit t (c ∷ cs) r e l = sym (ap begins_digit e)
+
+digits : (cs : List ℕ) → begins_digit cs ≡ true → 0 < length cs
+digits [] e = absurd cc
+digits (d ∷ ds) e = omega arith
+
+pub number_front : (part : Part) (t : List ℕ) → Front t (λ p. goes_on_number part p ≡ true) (number_run part t)
+number_front part [] = record { front = []; rest = []; whole = refl; has = refl; long = refl }
+number_front part (c ∷ cs) = at (λ q. number_front q cs) (is_name_char c) refl
+  where
+    joint : ((q : Part) → Front cs (λ p. goes_on_number q p ≡ true) (number_run q cs)) → (b : Bool) → is_name_char c ≡ false → is_joint part c cs ≡ b → Front (c ∷ cs) (λ p. goes_on_number part p ≡ true) (number_run part (c ∷ cs))
+    joint later true n e =
+        let w = later (after_joint part) in
+        let u = and_true (may_join part c) (begins_digit cs) e in
+        let some : 0 < length w.front = spelled_some w.front (subst (λ k. 0 < k) (sym w.long) (number_run-digit (after_joint part) cs u.1)) in
+        let digit = same_digit cs w.front w.rest w.whole some in
+        record {
+          front = c ∷ w.front;
+          rest = w.rest;
+          whole = ap (λ (xs : List ℕ). c ∷ xs) w.whole;
+          has = rw n (both_true _ _ (both_true _ _ u.0 (digit ∙ u.1)) w.has);
+          long = rw (n, e) (spelled_more c w.front ∙ ap (λ k. length (encode_utf8 c) + k) w.long);
+        }
+    joint later false n e = record { front = []; rest = c ∷ cs; whole = refl; has = refl; long = rw (n, e) refl }
+
+    at : ((q : Part) → Front cs (λ p. goes_on_number q p ≡ true) (number_run q cs)) → (b : Bool) → is_name_char c ≡ b → Front (c ∷ cs) (λ p. goes_on_number part p ≡ true) (number_run part (c ∷ cs))
+    at later true e =
+        let w = later (after_name_char part c) in
+        record {
+          front = c ∷ w.front;
+          rest = w.rest;
+          whole = ap (λ (xs : List ℕ). c ∷ xs) w.whole;
+          has = rw e w.has;
+          long = rw e (spelled_more c w.front ∙ ap (λ k. length (encode_utf8 c) + k) w.long);
+        }
+    at later false e = joint later _ e refl
+
+pub number_longest : (part : Part) (p r : List ℕ) → goes_on_number part p ≡ true → length (encode_utf8_all p) ≤ number_run part (p ++ r)
+number_longest part [] r h = omega arith
+number_longest part (c ∷ cs) r h = at (λ q. number_longest q cs r) (is_name_char c) refl
+  where
+    at : ((q : Part) → goes_on_number q cs ≡ true → length (encode_utf8_all cs) ≤ number_run q (cs ++ r)) → (b : Bool) → is_name_char c ≡ b → length (encode_utf8_all (c ∷ cs)) ≤ number_run part (c ∷ (cs ++ r))
+    at later true e = let l = later (after_name_char part c) (rw e at h) in rw e (omega (arith, spelled_more c cs, l))
+    at later false e =
+        let u = and_true (is_joint part c cs) (goes_on_number (after_joint part) cs) (rw e at h) in
+        let v = and_true (may_join part c) (begins_digit cs) u.0 in
+        let digit = same_digit (cs ++ r) cs r refl (digits cs v.1) in
+        let test : is_joint part c (cs ++ r) ≡ true = both_true _ _ v.0 (sym digit ∙ v.1) in
+        let l = later (after_joint part) u.1 in
+        rw (e, test) (omega (arith, spelled_more c cs, l))

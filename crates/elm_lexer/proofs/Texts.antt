@@ -17,29 +17,29 @@ front_itself : (xs ys : List ℕ) → take (length xs) (xs ++ ys) ≡ xs
 front_itself [] ys = refl
 front_itself (x ∷ xs) ys = ap (λ (zs : List ℕ). x ∷ zs) (front_itself xs ys)
 
-at_front : (xs : List ℕ) (c : ℕ) (cs : List ℕ) → get_or (xs ++ c ∷ cs) (length xs) 0 ≡ c
+pub at_front : (xs : List ℕ) (c : ℕ) (cs : List ℕ) → get_or (xs ++ c ∷ cs) (length xs) 0 ≡ c
 at_front [] c cs = refl
 at_front (x ∷ xs) c cs = at_front xs c cs
 
--- behind a character below 128
-behind_ascii : (c : ℕ) (cs : List ℕ) → c < 128 → IsUtf8 (c ∷ cs) → IsUtf8 cs
+-- after a character below 128
+pub behind_ascii : (c : ℕ) (cs : List ℕ) → c < 128 → IsUtf8 (c ∷ cs) → IsUtf8 cs
 behind_ascii c cs h u = IsUtf8-drop (c ∷ cs) 1 u (IsCharBoundary-after_ascii (c ∷ cs) 0 u (omega arith) h)
 
 -- from a character below 128 on
-from_ascii : (xs : List ℕ) (c : ℕ) (cs : List ℕ) → c < 128 → IsUtf8 (xs ++ c ∷ cs) → IsUtf8 (c ∷ cs)
+pub from_ascii : (xs : List ℕ) (c : ℕ) (cs : List ℕ) → c < 128 → IsUtf8 (xs ++ c ∷ cs) → IsUtf8 (c ∷ cs)
 from_ascii xs c cs h u =
     subst (λ x. IsUtf8 x) (behind_front xs (c ∷ cs))
     (IsUtf8-drop (xs ++ c ∷ cs) (length xs) u
     (IsCharBoundary-before_ascii (xs ++ c ∷ cs) (length xs) (omega (arith, length-append xs (c ∷ cs))) (subst (λ x. x < 128) (sym (at_front xs c cs)) h)))
 
--- behind a text
+-- after a text
 behind_text : (xs ys : List ℕ) → IsUtf8 (xs ++ ys) → IsUtf8 xs → IsUtf8 ys
 behind_text xs ys u v =
     subst (λ x. IsUtf8 x) (behind_front xs ys)
     (IsUtf8-drop (xs ++ ys) (length xs) u
     (IsCharBoundary-from_take (xs ++ ys) (length xs) u (omega (arith, length-append xs ys)) (subst (λ x. IsUtf8 x) (sym (front_itself xs ys)) v)))
 
--- what follows a block comment stands behind its last character, } (125)
+-- what follows a block comment stands after its last character, } (125)
 block_last : (d : ℕ) (t r : List ℕ) → IsBlock d t r → 0 < d → (body : List ℕ) × (t ≡ body ++ 125 ∷ r)
 block_last _ _ r ended h = absurd (omega (arith, h))
 block_last _ _ r (opens {depth} {text} b) h = let w = block_last (suc (suc depth)) text r b (omega arith) in (123 ∷ 45 ∷ w.0, ap (λ (xs : List ℕ). 123 ∷ 45 ∷ xs) w.1)

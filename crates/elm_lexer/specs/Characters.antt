@@ -41,3 +41,15 @@ is_operator_char c = is_among (codes "+-/*=.<>:&|^?%!") c
 -- parentheses, braces, brackets, the comma and the backslash
 abbrev pub is_mark : ℕ → Bool
 is_mark c = is_among (codes "(){}[],\\") c
+
+-- the signs of an exponent, + and -
+abbrev pub is_sign : ℕ → Bool
+is_sign c = c == 43 || c == 45
+
+-- e and E
+abbrev pub is_exponent_letter : ℕ → Bool
+is_exponent_letter c = c == 101 || c == 69
+
+-- a byte that goes on with a character of more than one byte
+abbrev pub is_continuing : ℕ → Bool
+is_continuing c = is_between 128 191 c

@@ -1,8 +1,12 @@
 pub mod Characters
+pub mod Numbers
 pub mod Pieces
 pub mod Kinds
+pub mod Literals
 pub mod Gaps
+pub mod Firsts
 pub mod Tokens
 pub mod View
 pub mod Lengths
 pub mod Names
+pub mod Values

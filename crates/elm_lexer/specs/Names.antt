@@ -4,8 +4,9 @@ use Rattle.std.specs.List.{list_all, All}
 use Rattle.std.specs.Str.{IsUtf8, chars}
 use Rattle.elm_base.specs.Path.{is_name_char}
 use Rattle.elm_lexer.specs.declared.token.Kind.{Kind}
-use Rattle.elm_lexer.specs.declared.token.Kind.TheVariants.{LowerName, UpperName}
+use Rattle.elm_lexer.specs.declared.token.Kind.TheVariants.{LowerName, UpperName, Text, Char}
 use Rattle.elm_lexer.specs.Characters.{is_lower}
+use Rattle.elm_lexer.specs.Literals.{SpellsLiteral}
 use Rattle.elm_lexer.specs.Pieces.{is_upper_word}
 use Rattle.elm_lexer.specs.Tokens.{Token}
 
@@ -23,3 +24,13 @@ SpellsName _ bytes = ⊤
 -- each name without points is a word
 abbrev pub AreNames : List Token → Type 0
 AreNames ts = All (λ t. SpellsName t.kind t.text) ts
+
+-- the bytes are those of a literal, where the kind is that of one
+abbrev pub SpellsValue : Kind → List ℕ → Type 0
+SpellsValue Text bytes = SpellsLiteral bytes
+SpellsValue Char bytes = SpellsLiteral bytes
+SpellsValue _ bytes = ⊤
+
+-- each text and character has a value
+abbrev pub AreValues : List Token → Type 0
+AreValues ts = All (λ t. SpellsValue t.kind t.text) ts

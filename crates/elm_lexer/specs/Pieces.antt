@@ -4,7 +4,9 @@ use Rattle.std.specs.Prelude.{◌≡◌, ℕ, ◌≤◌, Bool, false, ◌&&◌, 
 use Rattle.std.specs.List.{list_all}
 use Rattle.std.specs.Str.{IsUtf8, chars}
 use Rattle.elm_base.specs.Path.{is_name_char}
-use Rattle.elm_lexer.specs.Characters.{is_letter, is_upper, is_digit, is_operator_char, is_mark}
+use Rattle.elm_lexer.specs.declared.part.Part.TheVariants.{Whole}
+use Rattle.elm_lexer.specs.Characters.{is_letter, is_upper, is_lower, is_digit, is_operator_char, is_mark}
+use Rattle.elm_lexer.specs.Numbers.{goes_on_number}
 
 -- a letter and then name characters
 abbrev pub is_word : List ℕ → Bool
@@ -24,10 +26,12 @@ pub data IsName : List ℕ → Type 0 where
 pub data IsPiece : List ℕ → Type 0 where
   -- a name
   name : {p : List ℕ} → IsName p → IsPiece p
-  -- a digit and then name characters
-  number : {c : ℕ} {cs : List ℕ} → IsTrue (is_digit c) → IsTrue (list_all is_name_char cs) → IsPiece (c ∷ cs)
+  -- a digit and what goes on with a number: 12, 0x1F, 1.5, 1e-3, and also 12a
+  number : {c : ℕ} {cs : List ℕ} → IsTrue (is_digit c) → IsTrue (goes_on_number Whole (c ∷ cs)) → IsPiece (c ∷ cs)
   -- _ (95) and then name characters
   wildcard : {cs : List ℕ} → IsTrue (list_all is_name_char cs) → IsPiece (95 ∷ cs)
+  -- a point (46) and a lower-case word: .x
+  field : {c : ℕ} {cs : List ℕ} → IsTrue (is_lower c) → IsTrue (list_all is_name_char cs) → IsPiece (46 ∷ c ∷ cs)
   -- one mark
   mark : {c : ℕ} → IsTrue (is_mark c) → IsPiece (c ∷ [])
   -- operator characters

@@ -1,14 +1,19 @@
-//! What a piece is, if it is a token.
+//! What a piece is, if it is a token, and what is wrong with it otherwise.
 
-ghost use Rattle.std.specs.Prelude.{◌≡◌, ◌≤◌, ◌<◌, IsTrue, option_and_then};
+ghost use Rattle.std.specs.Prelude.{◌≡◌, ◌≤◌, ◌<◌, IsTrue, ◌||◌, length, option_and_then};
 ghost use Rattle.std.specs.List.{list_all};
 ghost use Rattle.std.specs.Str.{bytes_eq};
-ghost use Rattle.elm_lexer.specs.Characters.{is_digit, is_hex_digit};
-ghost use Rattle.elm_lexer.specs.Kinds.{begins_upper, kind_in, reserved_words, marks, operators, last_word, name_kind, is_decimal, is_hexadecimal, digit_value, number_from, number_value, int_of, kind_of};
+ghost use Rattle.elm_lexer.specs.Characters.{is_hex_digit};
+ghost use Rattle.elm_lexer.specs.Numbers.{is_float};
+ghost use Rattle.elm_lexer.specs.Kinds.{begins_upper, begins_field, kind_in, reserved_kinds, marks, operators, last_word, name_kind, is_decimal, is_hexadecimal, digit_value, number_from, number_value, int_of, field_kind, kind_of, is_integer, fault_of, detail_of};
 ghost use Rattle.elm_lexer.specs.declared.token.Kind.TheVariants.{Backslash, Operator};
 
-use crate::characters::{is_digit, is_hex_digit, is_letter, is_mark, is_operator_char, is_upper};
+use crate::characters::{
+    is_digit, is_hex_digit, is_letter, is_lower, is_mark, is_operator_char, is_upper,
+};
+use crate::number::{has_digits_alone, is_float};
 use crate::token::Kind;
+use elm_base::fault::Code;
 
 /// The greatest integer: 2 to the 53rd, less one.
 const GREATEST: u64 = 9007199254740991;
@@ -20,7 +25,7 @@ fn is(piece: &[u8], text: &str) -> bool
 }
 
 fn word_kind(word: &[u8], other: Kind) -> Kind
-    ensures { result ≡ kind_in reserved_words word.now other }
+    ensures { result ≡ kind_in reserved_kinds word.now other }
 {
     if is(word, "if") {
         Kind::If
@@ -137,12 +142,6 @@ fn name_kind(name: &[u8]) -> Kind
     }
 }
 
-fn are_digits(digits: &[u8]) -> bool
-    ensures { result ≡ list_all is_digit digits.now }
-{
-    digits.iter().all(|c| is_digit(char::from(*c)))
-}
-
 fn are_hex_digits(digits: &[u8]) -> bool
     ensures { result ≡ list_all is_hex_digit digits.now }
 {
@@ -153,7 +152,7 @@ fn is_decimal(number: &[u8]) -> bool
     ensures { result ≡ is_decimal number.now }
 {
     match number {
-        [c, after @ ..] => b'1' <= *c && *c <= b'9' && are_digits(after),
+        [c, after @ ..] => b'1' <= *c && *c <= b'9' && has_digits_alone(after),
         [] => false,
     }
 }
@@ -167,7 +166,7 @@ fn is_hexadecimal(number: &[u8]) -> bool
     }
 }
 
-fn digit_value(c: u8) -> u64
+pub(crate) fn digit_value(c: u8) -> u64
     requires { IsTrue (is_hex_digit c) }
     ensures value { result ≡ digit_value c }
     ensures small { result < 16 }
@@ -215,6 +214,26 @@ fn number_kind(number: &[u8]) -> Option<Kind>
     }
 }
 
+/// Whether the text begins with a point and a lower-case letter.
+fn begins_field(text: &[u8]) -> bool
+    ensures { result ≡ begins_field text.now }
+{
+    match text {
+        [b'.', c, ..] => is_lower(char::from(*c)),
+        _ => false,
+    }
+}
+
+/// What a point and a word are.
+fn field_kind(word: &[u8]) -> Option<Kind>
+    ensures { result ≡ field_kind word.now }
+{
+    match word_kind(word, Kind::LowerName) {
+        Kind::LowerName => Some(Kind::Field),
+        _ => None,
+    }
+}
+
 /// What the piece is, or nothing where it is no token.
 pub(crate) fn kind_of(piece: &[u8]) -> Option<Kind>
     ensures { result ≡ kind_of piece.now }
@@ -233,6 +252,8 @@ pub(crate) fn kind_of(piece: &[u8]) -> Option<Kind>
         } else {
             None
         }
+    } else if begins_field(piece) {
+        field_kind(after)
     } else if is_mark(first) {
         Some(mark_kind(piece))
     } else if is_operator_char(first) {
@@ -240,4 +261,39 @@ pub(crate) fn kind_of(piece: &[u8]) -> Option<Kind>
     } else {
         None
     }
+}
+
+/// Whether the piece is a number without a point and without an exponent.
+fn is_integer(number: &[u8]) -> bool
+    ensures { result ≡ is_integer number.now }
+{
+    is(number, "0") || is_decimal(number) || is_hexadecimal(number)
+}
+
+/// What is wrong with a piece that is no token.
+pub(crate) fn fault_of(piece: &[u8]) -> Code
+    ensures { result ≡ fault_of piece.now }
+{
+    if is_float(piece) {
+        Code::FloatLiteral
+    } else if is_integer(piece) {
+        Code::IntTooLarge
+    } else {
+        Code::Syntax
+    }
+}
+
+/// Whether the piece is a number, of whatever kind.
+fn is_number(piece: &[u8]) -> bool
+    ensures { result ≡ (is_float piece.now || is_integer piece.now) }
+{
+    is_float(piece) || is_integer(piece)
+}
+
+/// How many bytes of the piece its fault names: all of a number's, and none otherwise.
+pub(crate) fn detail_length(piece: &[u8]) -> usize
+    ensures value { result ≡ length (detail_of piece.now) }
+    ensures within { result ≤ length piece.now }
+{
+    if is_number(piece) { piece.len() } else { 0 }
 }

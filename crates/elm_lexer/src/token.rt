@@ -30,6 +30,10 @@ pub enum Kind {
     QualifiedUpper,
     /// An integer, decimal or hexadecimal, of at most 2 to the 53rd, less one.
     Int(u64),
+    /// A text, `".."` or `"""..."""`.
+    Text,
+    /// A character, `'a'`.
+    Char,
     Underscore,
     OpenParen,
     CloseParen,
@@ -45,6 +49,8 @@ pub enum Kind {
     Bar,
     Dot,
     Dots,
+    /// A point and a lower-case word: `.x`.
+    Field,
     /// Any other run of operator characters.
     Operator,
 }
@@ -58,6 +64,6 @@ pub struct Token<'a> {
     pub start: Pos,
     /// White space or a comment stands right before it.
     pub space_before: bool,
-    /// White space or a comment stands right behind it.
+    /// White space or a comment stands right after it.
     pub space_after: bool,
 }

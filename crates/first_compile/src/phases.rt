@@ -35,7 +35,7 @@ pub fn compile(alloc: Global, text: &[u8]) -> Result<Made, AllocError>
     match tokens(alloc, text) {
         Ok(tokens) => build(alloc, &tokens),
         Err(LexError::NoMemory) => Err(AllocError),
-        Err(LexError::NoTokens) => Ok(Made::NotYet),
+        Err(LexError::Fault(_)) => Ok(Made::NotYet),
     }
 }
 

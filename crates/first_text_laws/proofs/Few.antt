@@ -1,9 +1,8 @@
 -- A text has at least as many bytes as tokens, and its module declares at most as many items as it has tokens.
-use Rattle.std.proofs.Common.{◌≡◌, ℕ, suc, ◌+◌, ◌<◌, ◌≤◌, Bool, List, [], ◌∷◌, ◌++◌, Some, length, ap, arith}
-use Rattle.std.proofs.lemmas.List.{length-append}
-use Rattle.elm_lexer.specs.declared.token.Kind.{Kind}
-use Rattle.elm_lexer.specs.Kinds.{kind_of}
-use Rattle.elm_lexer.specs.Tokens.{Place, Token, AreTokens, no_more, gap, token, Tokens}
+use Rattle.std.proofs.Common.{◌≡◌, ℕ, suc, ◌+◌, ◌<◌, ◌≤◌, Bool, List, [], ◌∷◌, ◌++◌, Option, length, drop, ap, arith}
+use Rattle.std.proofs.lemmas.List.{length-append, length-drop}
+use Rattle.elm_lexer.specs.Tokens.{Place, Token, Fault, Reads, no_more, gap, open_comment, token, fault, Tokens}
+use Rattle.elm_lexer.proofs.Starts.{token_cut}
 use Rattle.first_tree.specs.Tree.{Declaration, Header, NoHeader, ModuleHeader, PortHeader, Module}
 use Rattle.first_tree.specs.Words.{Word, Words, header_words, declaration_words}
 use Rattle.first_tree.specs.Spells.{Begins, Fits, FitsLine, AreDeclarations, IsHeader, Spells}
@@ -11,22 +10,18 @@ use Rattle.first_program_laws.specs.Items.{Item}
 use Rattle.first_items.specs.Items.{AreItems, no_item, port, value, IsModule}
 use Rattle.first_item_laws.specs.Count.{words_in}
 
--- a token is not empty
-piece_length : (piece : List ℕ) (kind : Kind) → kind_of piece ≡ Some kind → 0 < length piece
-piece_length [] kind e = absurd (cc)
-piece_length (c ∷ cs) kind e = omega arith
-
 -- a rest of a text has at least as many bytes as tokens
-pieces_few : {p : Place} {touched : Bool} {text : List ℕ} {ts : List Token} → AreTokens p touched text ts → length ts ≤ length text
+pieces_few : {p : Place} {touched : Bool} {text : List ℕ} {ts : List Token} {end : Option Fault} → Reads p touched text ts end → length ts ≤ length text
 pieces_few no_more = omega arith
 pieces_few (gap {rest = rest} {ts = ts} body g h) =
     let l : length ts ≤ length rest = pieces_few h in
     omega (arith, length-append body rest)
-pieces_few (token {text = text} {piece = piece} {rest = rest} {kind = kind} {ts = ts} b c k h) =
-    let l : length ts ≤ length rest = pieces_few h in
-    let n : 0 < length piece = piece_length piece kind k in
-    let e : length text ≡ length (piece ++ rest) = ap length c.whole in
-    omega (arith, length-append piece rest)
+pieces_few (open_comment b never) = omega arith
+pieces_few (token {text = text} {kind = kind} {n = n} {ts = ts} b f h) =
+    let l : length ts ≤ length (drop n text) = pieces_few h in
+    let c = token_cut text kind n f in
+    omega (arith, c.some, c.within, length-drop {A = ℕ} n text)
+pieces_few (fault b f) = omega arith
 
 -- a text has at least as many bytes as tokens
 pub tokens_few : (text : List ℕ) (ts : List Token) → Tokens text ts → length ts ≤ length text

@@ -1,16 +1,18 @@
 -- Each integer among the tokens of a text is exact, and each name is a word.
-use Rattle.std.proofs.Common.{◌≡◌, ℕ, ◌≤◌, List, [], ◌∷◌, Bool, true, false, Option, Some, None, nat_le, refl, subst}
+use Rattle.std.proofs.Common.{◌≡◌, ℕ, ◌≤◌, List, [], ◌∷◌, Bool, true, false, Option, Some, None, nat_le, take, refl, subst}
 use Rattle.std.specs.Prelude.{if◌then◌else◌, option_and_then, ◌==◌}
 use Rattle.std.specs.List.{list_any, AllByRecursion}
 use Rattle.std.specs.Str.{bytes_eq}
 use Rattle.std.proofs.lemmas.Bool.{leb-true}
 use Rattle.std.proofs.lemmas.List.Elements.{recursion_from_All}
 use Rattle.elm_lexer.specs.declared.token.Kind.{Kind}
-use Rattle.elm_lexer.specs.declared.token.Kind.TheVariants.{Int, LowerName, UpperName, QualifiedLower, QualifiedUpper, Backslash, Operator}
+use Rattle.elm_lexer.specs.declared.token.Kind.TheVariants.{Int, Text, Char, LowerName, UpperName, QualifiedLower, QualifiedUpper, Backslash, Operator}
 use Rattle.elm_lexer.specs.Characters.{is_letter, is_digit, is_mark, is_operator_char}
-use Rattle.elm_lexer.specs.Kinds.{kind_in, reserved_words, marks, operators, begins_upper, last_word, name_kind, number_value, int_of, wildcard_kind, kind_of}
+use Rattle.elm_lexer.specs.Kinds.{kind_in, reserved_kinds, marks, operators, begins_upper, begins_field, field_of, field_kind, last_word, name_kind, number_value, int_of, wildcard_kind, kind_of}
+use Rattle.elm_lexer.specs.Literals.{is_character, literal_kind}
 use Rattle.elm_lexer.specs.Names.{SpellsName}
-use Rattle.elm_lexer.specs.Tokens.{Place, Token, AreTokens, no_more, gap, token, Tokens}
+use Rattle.elm_lexer.specs.Tokens.{Place, Token, Fault, Reads, no_more, gap, open_comment, token, fault, Tokens}
+use Rattle.elm_lexer.proofs.Starts.{TokenOf, of_piece, of_literal, token_is}
 use Rattle.elm_lexer.proofs.Names.{tokens_names}
 
 -- the kind of an integer has an exact one
@@ -44,7 +46,7 @@ in_table [] piece other ps q = q
 in_table (r ∷ rows) piece other ps q = either_kind (bytes_eq piece r.0) _ _ ps.0 (in_table rows piece other ps.1 q)
 
 -- the tables have no integers
-reserved_exact : AreExactRows reserved_words
+reserved_exact : AreExactRows reserved_kinds
 reserved_exact = (tt, (tt, (tt, (tt, (tt, (tt, (tt, (tt, (tt, (tt, (tt, (tt, (tt, (tt, tt))))))))))))))
 
 marks_exact : AreExactRows marks
@@ -58,7 +60,7 @@ name_exact : (name : List ℕ) → IsExactKind (name_kind name)
 name_exact name =
     either_kind (list_any (λ c. c == 46) name) _ _
     (either_kind (begins_upper (last_word name name)) QualifiedUpper QualifiedLower tt tt)
-    (in_table reserved_words name (if begins_upper name then UpperName else LowerName) reserved_exact (either_kind (begins_upper name) UpperName LowerName tt tt))
+    (in_table reserved_kinds name (if begins_upper name then UpperName else LowerName) reserved_exact (either_kind (begins_upper name) UpperName LowerName tt tt))
 
 -- an integer is exact, or it is no token
 int_exact : (n : ℕ) → IfExactKind (int_of n)
@@ -78,6 +80,16 @@ wildcard_exact : (cs : List ℕ) → IfExactKind (wildcard_kind cs)
 wildcard_exact [] = tt
 wildcard_exact (c ∷ cs) = tt
 
+-- a field is no integer
+field_exact : (k : Kind) → IfExactKind (field_of k)
+field_exact LowerName = tt
+field_exact _ = tt
+
+-- a literal is no integer
+literal_exact : (literal : List ℕ) → IfExactKind (literal_kind literal)
+literal_exact [] = tt
+literal_exact (c ∷ cs) = if_either (c == 34) (Some Text) _ tt (if_either (is_character (c ∷ cs)) (Some Char) None tt tt)
+
 -- the kind of a piece
 piece_exact : (piece : List ℕ) → IfExactKind (kind_of piece)
 piece_exact [] = tt
@@ -85,8 +97,9 @@ piece_exact (c ∷ cs) =
     if_either (is_letter c) (Some (name_kind (c ∷ cs))) _ (name_exact (c ∷ cs))
     (if_either (is_digit c) _ _ (number_exact (number_value (c ∷ cs)))
     (if_either (c == 95) _ _ (wildcard_exact cs)
+    (if_either (begins_field (c ∷ cs)) (field_kind cs) _ (field_exact (kind_in reserved_kinds cs LowerName))
     (if_either (is_mark c) (Some (kind_in marks (c ∷ cs) Backslash)) _ (in_table marks (c ∷ cs) Backslash marks_exact tt)
-    (if_either (is_operator_char c) (Some (kind_in operators (c ∷ cs) Operator)) None (in_table operators (c ∷ cs) Operator operators_exact tt) tt))))
+    (if_either (is_operator_char c) (Some (kind_in operators (c ∷ cs) Operator)) None (in_table operators (c ∷ cs) Operator operators_exact tt) tt)))))
 
 -- an integer is exact, and a name is a word
 pub record IsGoodToken (t : Token) : Type 0 where
@@ -103,10 +116,17 @@ abbrev AreExactTokens : List Token → Type 0
 AreExactTokens [] = Unit {0}
 AreExactTokens (t ∷ ts) = IsExactKind t.kind × AreExactTokens ts
 
-cut_exact : {p : Place} {touched : Bool} {text : List ℕ} {ts : List Token} → AreTokens p touched text ts → AreExactTokens ts
+-- a token is no wrong integer
+token_exact : (t : List ℕ) (kind : Kind) (n : ℕ) → TokenOf t kind n → IsExactKind kind
+token_exact t kind n (of_piece long c k) = subst IfExactKind k (piece_exact (take n t))
+token_exact t kind n (of_literal b l x k) = subst IfExactKind k (literal_exact (take n t))
+
+cut_exact : {p : Place} {touched : Bool} {text : List ℕ} {ts : List Token} {end : Option Fault} → Reads p touched text ts end → AreExactTokens ts
 cut_exact no_more = tt
 cut_exact (gap body g h) = cut_exact h
-cut_exact (token {piece = piece} {kind = kind} b c k h) = (subst IfExactKind k (piece_exact piece), cut_exact h)
+cut_exact (open_comment b never) = tt
+cut_exact (token {text = text} {kind = kind} {n = n} b f h) = (token_exact text kind n (token_is text kind n f), cut_exact h)
+cut_exact (fault b f) = tt
 
 -- both
 both_good : (ts : List Token) → AreExactTokens ts → AllByRecursion (λ t. SpellsName t.kind t.text) ts → AreGoodTokens ts

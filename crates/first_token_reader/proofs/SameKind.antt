@@ -2,7 +2,7 @@
 use Rattle.std.proofs.Common.{◌≡◌, true, false, refl, ap}
 use Rattle.std.proofs.lemmas.Bool.{eq-eqb, eqb-true}
 use Rattle.elm_lexer.specs.declared.token.Kind.{Kind}
-use Rattle.elm_lexer.specs.declared.token.Kind.TheVariants.{If, Then, Else, Case, Of, Let, In, «Type», Module, Where, Import, Exposing, As, Port, LowerName, UpperName, QualifiedLower, QualifiedUpper, Int, Underscore, OpenParen, CloseParen, OpenBrace, CloseBrace, OpenBracket, CloseBracket, Comma, Backslash, Equals, Arrow, Colon, Bar, Dot, Dots, Operator}
+use Rattle.elm_lexer.specs.declared.token.Kind.TheVariants.{If, Then, Else, Case, Of, Let, In, «Type», Module, Where, Import, Exposing, As, Port, LowerName, UpperName, QualifiedLower, QualifiedUpper, Int, Text, Char, Underscore, OpenParen, CloseParen, OpenBrace, CloseBrace, OpenBracket, CloseBracket, Comma, Backslash, Equals, Arrow, Colon, Bar, Dot, Dots, Field, Operator}
 use Rattle.first_token_reader.specs.Reading.{same_kind}
 
 pub no : false ≡ true → ⊥
@@ -29,6 +29,8 @@ same_kind-refl UpperName = refl
 same_kind-refl QualifiedLower = refl
 same_kind-refl QualifiedUpper = refl
 same_kind-refl (Int n) = eq-eqb n n refl
+same_kind-refl Text = refl
+same_kind-refl Char = refl
 same_kind-refl Underscore = refl
 same_kind-refl OpenParen = refl
 same_kind-refl CloseParen = refl
@@ -44,6 +46,7 @@ same_kind-refl Colon = refl
 same_kind-refl Bar = refl
 same_kind-refl Dot = refl
 same_kind-refl Dots = refl
+same_kind-refl Field = refl
 same_kind-refl Operator = refl
 
 pub same_kind_is : (j k : Kind) → same_kind j k ≡ true → j ≡ k
@@ -67,6 +70,8 @@ same_kind_is UpperName UpperName e = refl
 same_kind_is QualifiedLower QualifiedLower e = refl
 same_kind_is QualifiedUpper QualifiedUpper e = refl
 same_kind_is (Int m) (Int n) e = ap (λ x. Int x) (eqb-true m n e)
+same_kind_is Text Text e = refl
+same_kind_is Char Char e = refl
 same_kind_is Underscore Underscore e = refl
 same_kind_is OpenParen OpenParen e = refl
 same_kind_is CloseParen CloseParen e = refl
@@ -82,5 +87,6 @@ same_kind_is Colon Colon e = refl
 same_kind_is Bar Bar e = refl
 same_kind_is Dot Dot e = refl
 same_kind_is Dots Dots e = refl
+same_kind_is Field Field e = refl
 same_kind_is Operator Operator e = refl
 same_kind_is _ _ e = absurd (no e)

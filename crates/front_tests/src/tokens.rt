@@ -1,7 +1,8 @@
 ghost use Rattle.std.specs.Prelude.{◌≤◌, length};
 
+use elm_base::fault::Code;
 use elm_base::position::Pos;
-use elm_lexer::{Kind, LexError, Token, tokens};
+use elm_lexer::{Kind, LexError, Token, literal_units, tokens};
 use std::process::Abort;
 use std::test::Fail;
 
@@ -27,14 +28,13 @@ fn layouts(rt: HostRuntime) -> Result<(), Fail> {
 
 #[test]
 fn numbers(rt: HostRuntime) -> Result<(), Fail> {
-    let found = tokens(rt.alloc(), b"0x1F 9007199254740991 1.5 0")?;
-    assert_eq!(rt; found.len(), 6);
+    let found = tokens(rt.alloc(), b"0x1F 9007199254740991 1. 0")?;
+    assert_eq!(rt; found.len(), 5);
     assert!(rt; found[0].kind == Kind::Int(31));
     assert!(rt; found[1].kind == Kind::Int(9007199254740991));
     assert!(rt; found[2].kind == Kind::Int(1));
     assert!(rt; found[3].kind == Kind::Dot);
-    assert!(rt; found[4].kind == Kind::Int(5));
-    assert!(rt; found[5].kind == Kind::Int(0));
+    assert!(rt; found[4].kind == Kind::Int(0));
     Ok(())
 }
 
@@ -57,7 +57,7 @@ fn is_refused(rt: &HostRuntime, text: &[u8]) -> bool
     requires { length text.now ≤ 4194304 }
 {
     match tokens(rt.alloc(), text) {
-        Err(LexError::NoTokens) => true,
+        Err(LexError::Fault(_)) => true,
         _ => false,
     }
 }
@@ -79,4 +79,135 @@ fn refused(rt: HostRuntime) {
     assert!(&rt; is_refused(&rt, "A\u{e9}.\u{fc}".as_bytes()));
     assert!(&rt; is_refused(&rt, "a\u{d7}".as_bytes()));
     assert!(&rt; is_refused(&rt, "a\u{1f600}".as_bytes()));
+}
+
+fn is_fault(rt: &HostRuntime, text: &[u8], code: Code, row: u32, column: u32, detail: &[u8]) -> bool
+    requires { length text.now ≤ 4194304 }
+{
+    match tokens(rt.alloc(), text) {
+        Err(LexError::Fault(fault)) => {
+            fault.code == code && fault.place == Pos { row, column } && fault.detail == detail
+        }
+        _ => false,
+    }
+}
+
+#[test]
+fn faults(rt: HostRuntime) {
+    assert!(&rt; is_fault(&rt, b"-- \xff", Code::NotUtf8, 1, 1, b""));
+    assert!(&rt; is_fault(&rt, b"a\n \tb", Code::Tab, 2, 2, b""));
+    assert!(&rt; is_fault(&rt, b"a #", Code::Syntax, 1, 3, b""));
+    assert!(&rt; is_fault(&rt, "\u{e9}".as_bytes(), Code::Syntax, 1, 1, b""));
+    assert!(&rt; is_fault(&rt, b"x = 1.5", Code::FloatLiteral, 1, 5, b"1.5"));
+    assert!(&rt; is_fault(&rt, b"1e3", Code::FloatLiteral, 1, 1, b"1e3"));
+    assert!(&rt; is_fault(&rt, b"1.5e-3+1", Code::FloatLiteral, 1, 1, b"1.5e-3"));
+    assert!(&rt; is_fault(&rt, b"2E+10", Code::FloatLiteral, 1, 1, b"2E+10"));
+    assert!(&rt; is_fault(&rt, b"1.5x", Code::Syntax, 1, 1, b""));
+    assert!(&rt; is_fault(&rt, b"1e-3x", Code::Syntax, 1, 1, b""));
+    assert!(&rt; is_fault(&rt, b"007", Code::Syntax, 1, 1, b""));
+    assert!(&rt; is_fault(&rt, b"12a", Code::Syntax, 1, 1, b""));
+    assert!(&rt; is_fault(&rt, b"0x", Code::Syntax, 1, 1, b""));
+    assert!(&rt; is_fault(&rt, b"_x", Code::Syntax, 1, 1, b""));
+    assert!(&rt;
+        is_fault(
+            &rt,
+            b"9007199254740992",
+            Code::IntTooLarge,
+            1,
+            1,
+            b"9007199254740992"
+        )
+    );
+    assert!(&rt;
+        is_fault(
+            &rt,
+            b"0x20000000000000",
+            Code::IntTooLarge,
+            1,
+            1,
+            b"0x20000000000000"
+        )
+    );
+    assert!(&rt; is_fault(&rt, b"r.type", Code::Syntax, 1, 2, b""));
+    assert!(&rt; is_fault(&rt, b"a {- {- -}", Code::Unclosed, 1, 3, b""));
+    assert!(&rt; is_fault(&rt, b"\"abc\nd\"", Code::Unclosed, 1, 1, b""));
+    assert!(&rt; is_fault(&rt, b"\"abc\\\"", Code::Unclosed, 1, 1, b""));
+    assert!(&rt; is_fault(&rt, b" \"\"\"abc\n\\\"\"\"", Code::Unclosed, 1, 2, b""));
+    assert!(&rt; is_fault(&rt, b"'a", Code::Unclosed, 1, 1, b""));
+    assert!(&rt; is_fault(&rt, b"'ab'", Code::Syntax, 1, 1, b""));
+    assert!(&rt; is_fault(&rt, b"''", Code::Syntax, 1, 1, b""));
+    assert!(&rt; is_fault(&rt, b"'\t'", Code::Tab, 1, 2, b""));
+    assert!(&rt; is_fault(&rt, b"'\ta'", Code::Syntax, 1, 1, b""));
+    assert!(&rt; is_fault(&rt, b"'\\q'", Code::BadEscape, 1, 2, b""));
+    assert!(&rt; is_fault(&rt, b"'a\\q'", Code::Syntax, 1, 1, b""));
+    assert!(&rt; is_fault(&rt, b"'\\n\\n'", Code::Syntax, 1, 1, b""));
+    assert!(&rt; is_fault(&rt, b"'\\u{0041}a'", Code::Syntax, 1, 1, b""));
+    assert!(&rt;
+        is_fault(
+            &rt,
+            "\"\u{e9}\\n\\q\"".as_bytes(),
+            Code::BadEscape,
+            1,
+            5,
+            b""
+        )
+    );
+    assert!(&rt; is_fault(&rt, b"\"\"\"\n\n \\q\"\"\"", Code::BadEscape, 3, 2, b""));
+    assert!(&rt; is_fault(&rt, b"\"\\u{110000}\"", Code::BadEscape, 1, 2, b""));
+    assert!(&rt; is_fault(&rt, b"\"\\u{041}\"", Code::BadEscape, 1, 2, b""));
+    assert!(&rt; is_fault(&rt, b"\"\\u{0000041}\"", Code::BadEscape, 1, 2, b""));
+    assert!(&rt; is_fault(&rt, b"\"\\u0041\"", Code::BadEscape, 1, 2, b""));
+}
+
+fn is_token(token: &Token, kind: Kind, text: &[u8], before: bool, after: bool) -> bool {
+    token.kind == kind
+        && token.text == text
+        && token.space_before == before
+        && token.space_after == after
+}
+
+#[test]
+fn kinds(rt: HostRuntime) -> Result<(), Fail> {
+    let text =
+        "r.x .y 0x1e-3 1. ..a \"\t\" '\"' '\\'' '\\u{1F600}' \"\"\"a\"b\n\"\"\" \"\" 'é' 1.x".as_bytes();
+    let found = tokens(rt.alloc(), text)?;
+    assert_eq!(rt; found.len(), 19);
+    assert!(rt; is_token(&found[0], Kind::LowerName, b"r", false, false));
+    assert!(rt; is_token(&found[1], Kind::Field, b".x", false, true));
+    assert!(rt; is_token(&found[2], Kind::Field, b".y", true, true));
+    assert!(rt; is_token(&found[3], Kind::Int(30), b"0x1e", true, false));
+    assert!(rt; is_token(&found[4], Kind::Operator, b"-", false, false));
+    assert!(rt; is_token(&found[5], Kind::Int(3), b"3", false, true));
+    assert!(rt; is_token(&found[6], Kind::Int(1), b"1", true, false));
+    assert!(rt; is_token(&found[7], Kind::Dot, b".", false, true));
+    assert!(rt; is_token(&found[8], Kind::Dots, b"..", true, false));
+    assert!(rt; is_token(&found[9], Kind::LowerName, b"a", false, true));
+    assert!(rt; is_token(&found[10], Kind::Text, b"\"\t\"", true, true));
+    assert!(rt; is_token(&found[11], Kind::Char, b"'\"'", true, true));
+    assert!(rt; is_token(&found[12], Kind::Char, b"'\\''", true, true));
+    assert!(rt; is_token(&found[13], Kind::Char, b"'\\u{1F600}'", true, true));
+    assert!(rt; is_token(&found[14], Kind::Text, b"\"\"\"a\"b\n\"\"\"", true, true));
+    assert!(rt; is_token(&found[15], Kind::Text, b"\"\"", true, true));
+    assert!(rt; is_token(&found[16], Kind::Char, "'é'".as_bytes(), true, true));
+    assert!(rt; is_token(&found[17], Kind::Int(1), b"1", true, false));
+    assert!(rt; is_token(&found[18], Kind::Field, b".x", false, false));
+    Ok(())
+}
+
+#[test]
+fn values(rt: HostRuntime) -> Result<(), Fail> {
+    let units = literal_units(rt.alloc(), b"\"a\\n\\r\\t\\\"\\'\\\\\"")?;
+    assert!(rt; units.as_slice() == [97, 10, 13, 9, 34, 39, 92].as_slice());
+    let units = literal_units(
+        rt.alloc(),
+        "\"\"\"\u{1F600}\\u{1f600}\r\n\\u{D800}\"u\"\"\"".as_bytes(),
+    )?;
+    assert!(rt;
+        units.as_slice() == [0xD83D, 0xDE00, 0xD83D, 0xDE00, 13, 10, 0xD800, 34, 117].as_slice()
+    );
+    let units = literal_units(rt.alloc(), b"\"\"")?;
+    assert!(rt; units.as_slice().is_empty());
+    let units = literal_units(rt.alloc(), b"'\\u{10FFFF}'")?;
+    assert!(rt; units.as_slice() == [0xDBFF, 0xDFFF].as_slice());
+    Ok(())
 }

@@ -34,5 +34,7 @@ returns-in-Ok-clause-exact c =
     of_ok (λ made. IsMade (Some c.args.text.now) (made_view made)) (λ made. HasExactLiterals (made_view made)) c.build.result
     (λ made m. made_exact (Some c.args.text.now) (made_view made) m) (returns-in-Ok-clause-made c)
 
-pub returns-in-Err-NoTokens-clause-made : goal.returns-in-Err-NoTokens-clause-made
-returns-in-Err-NoTokens-clause-made c = refused (no_tokens c.args.text.now ((c.in-Err-NoTokens.ensures).none c.in-Err-NoTokens.field-0-is))
+pub returns-in-Err-Fault-clause-made : goal.returns-in-Err-Fault-clause-made
+returns-in-Err-Fault-clause-made c =
+    let never = rw c.in-Err-Fault.field-0-is at (c.in-Err-Fault.ensures).none in
+    refused (no_tokens c.args.text.now never)

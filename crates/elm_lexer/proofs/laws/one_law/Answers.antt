@@ -1,0 +1,5 @@
+use Rattle.elm_lexer.proofs.Same.{fault_alone}
+use Rattle.elm_lexer.proofs.laws.one_law.Goals as goal
+
+pub returns : goal.returns
+returns c = fault_alone

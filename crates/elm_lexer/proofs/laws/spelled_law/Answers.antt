@@ -1,0 +1,5 @@
+use Rattle.elm_lexer.proofs.Spelled.{tokens_spelled}
+use Rattle.elm_lexer.proofs.laws.spelled_law.Goals as goal
+
+pub returns : goal.returns
+returns c = tokens_spelled
