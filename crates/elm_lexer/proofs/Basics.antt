@@ -46,7 +46,7 @@ pub all_weaker : (f g : ℕ → Bool) → ((c : ℕ) → f c ≡ true → g c �
 all_weaker f g h [] e = refl
 all_weaker f g h (c ∷ cs) e = let w = and_true _ _ e in both_true _ _ (h c w.0) (all_weaker f g h cs w.1)
 
--- the slice behind n
+-- the slice after n
 pub rest_of : (n : ℕ) (t : List ℕ) → take (length t - n) (drop n t) ≡ drop n t
 rest_of n t = take_all _ _ (omega (arith, length-drop {A = ℕ} n t))
 

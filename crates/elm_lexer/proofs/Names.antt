@@ -131,7 +131,7 @@ wildcard_spelled : (bytes cs : List ℕ) → IfName bytes (wildcard_kind cs)
 wildcard_spelled bytes [] = tt
 wildcard_spelled bytes (c ∷ cs) = tt
 
--- a field is no name
+-- a field is not a name
 field_spelled : (bytes : List ℕ) (k : Kind) → IfName bytes (field_of k)
 field_spelled bytes LowerName = tt
 field_spelled bytes _ = tt
@@ -149,7 +149,7 @@ piece_spelled (b ∷ bs) h =
 
 -- ---- tokens
 
--- a literal is no name
+-- a literal is not a name
 literal_spelled : (bytes literal : List ℕ) → IfName bytes (literal_kind literal)
 literal_spelled bytes [] = tt
 literal_spelled bytes (c ∷ cs) = if_either bytes (c == 34) _ (Some Text) _ refl (λ _. tt) (if_either bytes (is_character (c ∷ cs)) _ (Some Char) None refl (λ _. tt) tt)

@@ -149,7 +149,7 @@ push_upper : (w : List ℕ) (c : ℕ) → is_upper_word w ≡ true → is_name_c
 push_upper [] c h e = absurd cc
 push_upper (d ∷ ds) c h e = let v = and_true _ _ h in both_true _ _ v.0 (push_all is_name_char ds c v.1 e)
 
--- what goes on a name is a name behind a word, and alone where it begins with a letter
+-- what goes on a name is a name after a word, and alone where it begins with a letter
 pub record Names (p : List ℕ) : Type 0 where
   pub behind : (upper : Bool) (w : List ℕ) → is_word w ≡ true → (upper ≡ true → is_upper_word w ≡ true) → goes upper p ≡ true → IsName (w ++ p)
   pub alone : begins_letter p ≡ true → goes (begins_upper p) p ≡ true → IsName p

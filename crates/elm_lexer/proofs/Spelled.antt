@@ -189,7 +189,7 @@ code_low n v c t e = at (is_hex_digit c) refl
     at true k = (hex_low c k).0
     at false k = let w = and_true (c == 125) (nat_le 4 n) (rw k at e) in omega (arith, eq_true c 125 w.0)
 
--- a quote is no digit and no brace
+-- a quote is not a digit and no brace
 quote_parts : (q : ℕ) → IsQuote q → (is_hex_digit q ≡ false) × (((q == 125) ≡ false) × ((q == 123) ≡ false))
 quote_parts q i = at (q == 34) refl
   where

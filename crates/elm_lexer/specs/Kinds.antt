@@ -87,7 +87,7 @@ number_value number =
 abbrev pub int_of : ℕ → Option Kind
 int_of n = if nat_le n 9007199254740991 then Some (Int n) else None
 
--- what follows a wildcard's _: nothing, or it is no token
+-- what follows a wildcard's _: nothing, or it is not a token
 abbrev pub wildcard_kind : List ℕ → Option Kind
 wildcard_kind [] = Some Underscore
 wildcard_kind _ = None
@@ -126,7 +126,7 @@ kind_of (c ∷ cs) =
 abbrev pub is_integer : List ℕ → Bool
 is_integer number = bytes_eq number (codes "0") || (is_decimal number || is_hexadecimal number)
 
--- what is wrong with a piece that is no token: a number with a point or an exponent, an integer that is too great, or anything else
+-- what is wrong with a piece that is not a token: a number with a point or an exponent, an integer that is too great, or anything else
 abbrev pub fault_of : List ℕ → Code
 fault_of piece = if is_float piece then FloatLiteral else (if is_integer piece then IntTooLarge else Syntax)
 

@@ -39,7 +39,7 @@ fn after_line(text: &[u8]) -> &[u8]
     rest
 }
 
-/// One step into a text that stands inside of block comments: the depth behind it, and the text that is left.
+/// One step into a text that stands inside of block comments: the depth after it, and the text that is left.
 fn block_step(depth: u32, text: &[u8]) -> (u32, &[u8])
     requires deep { 0 < depth }
     requires few { depth + length text.now < 2 ^ 32 }

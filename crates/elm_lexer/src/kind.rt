@@ -234,7 +234,7 @@ fn field_kind(word: &[u8]) -> Option<Kind>
     }
 }
 
-/// What the piece is, or nothing where it is no token.
+/// What the piece is, or nothing where it is not a token.
 pub(crate) fn kind_of(piece: &[u8]) -> Option<Kind>
     ensures { result ≡ kind_of piece.now }
 {
@@ -270,7 +270,7 @@ fn is_integer(number: &[u8]) -> bool
     is(number, "0") || is_decimal(number) || is_hexadecimal(number)
 }
 
-/// What is wrong with a piece that is no token.
+/// What is wrong with a piece that is not a token.
 pub(crate) fn fault_of(piece: &[u8]) -> Code
     ensures { result ≡ fault_of piece.now }
 {

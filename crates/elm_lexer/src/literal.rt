@@ -273,7 +273,7 @@ pub(crate) fn is_tab(literal: &[u8]) -> bool
     }
 }
 
-/// What the literal is, or nothing where it is no token.
+/// What the literal is, or nothing where it is not a token.
 pub(crate) fn literal_kind(literal: &[u8]) -> Option<Kind>
     ensures { result ≡ literal_kind literal.now }
 {

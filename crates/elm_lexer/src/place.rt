@@ -1,4 +1,4 @@
-//! Places behind stretches of text.
+//! Places after stretches of text.
 
 ghost use Rattle.std.specs.Prelude.{◌≡◌, ◌+◌, ◌<◌, ◌≤◌, ◌^◌, length};
 ghost use Rattle.elm_lexer.specs.Tokens.{behind, behind_byte};
@@ -28,7 +28,7 @@ fn behind_byte(place: Pos, c: u8) -> Pos
     }
 }
 
-/// The place behind a stretch of text that begins at a place.
+/// The place after a stretch of text that begins at a place.
 pub(crate) fn behind(place: Pos, text: &[u8]) -> Pos
     requires row { place.row + length text.now < 2 ^ 32 }
     requires column { place.column + length text.now < 2 ^ 32 }
