@@ -1,0 +1,16 @@
+use Rattle.std.specs.Prelude.{refl}
+use Rattle.elm_tree.specs.Regroup.{row_of, clashing}
+use Rattle.elm_grammar.specs.Values.{takes, gives, act}
+use Rattle.elm_grammar.specs.Faults.{faults_of}
+use Rattle.elm_grammar.proofs.laws.fault_examples.Goals as goal
+
+pub returns : goal.returns
+unfolding row_of clashing takes gives act faults_of
+returns c = record {
+  four_parts = refl;
+  three_parts = refl;
+  comparisons = refl;
+  lone_in_let = refl;
+  with_definition = refl;
+  lone_at_end = refl;
+}

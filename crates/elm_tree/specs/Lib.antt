@@ -1,0 +1,5 @@
+pub mod Tree
+pub mod Words
+pub mod View
+pub mod Regroup
+pub mod Examples

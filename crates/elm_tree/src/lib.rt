@@ -1,0 +1,5 @@
+//! The surface tree of a module: what is written, and where.
+#![tactic(auto)]
+
+pub mod laws;
+pub mod tree;
