@@ -6,11 +6,8 @@ use Rattle.std.specs.Prelude.{◌≡◌, ℕ, suc, List, [], ◌∷◌, ◌++◌
 use Rattle.std.specs.Str.{bytes_eq}
 use Rattle.std.specs.List.{list_any}
 use Rattle.elm_tree.specs.Tree.{Word}
-
-pub data Side : Type 0 where
-  LeftSide : Side
-  RightSide : Side
-  NoSide : Side
+use Rattle.elm_tree.specs.declared.operator.Side.{Side}
+use Rattle.elm_tree.specs.declared.operator.Side.TheVariants.{ToLeft, ToRight, Neither}
 
 -- an operator of the language: its text, its level and its side
 pub record Row : Type 0 where
@@ -21,22 +18,26 @@ pub record Row : Type 0 where
 abbrev pub row : List ℕ → ℕ → Side → Row
 row text level side = record { text = text; level = level; side = side }
 
+abbrev pub tight_rows : List Row
+tight_rows =
+    row (codes "++") 5 ToRight ∷ row (codes "::") 5 ToRight
+    ∷ row (codes "+") 6 ToLeft ∷ row (codes "-") 6 ToLeft
+    ∷ row (codes "*") 7 ToLeft ∷ row (codes "//") 7 ToLeft
+    ∷ row (codes "^") 8 ToRight
+    ∷ row (codes "<<") 9 ToLeft ∷ row (codes ">>") 9 ToRight
+    ∷ []
+
 abbrev pub operator_rows : List Row
 operator_rows =
-    row (codes "<|") 0 RightSide ∷ row (codes "|>") 0 LeftSide
-    ∷ row (codes "||") 2 RightSide ∷ row (codes "&&") 3 RightSide
-    ∷ row (codes "==") 4 NoSide ∷ row (codes "/=") 4 NoSide ∷ row (codes "<") 4 NoSide ∷ row (codes ">") 4 NoSide
-    ∷ row (codes "<=") 4 NoSide ∷ row (codes ">=") 4 NoSide
-    ∷ row (codes "++") 5 RightSide ∷ row (codes "::") 5 RightSide
-    ∷ row (codes "+") 6 LeftSide ∷ row (codes "-") 6 LeftSide
-    ∷ row (codes "*") 7 LeftSide ∷ row (codes "//") 7 LeftSide
-    ∷ row (codes "^") 8 RightSide
-    ∷ row (codes "<<") 9 LeftSide ∷ row (codes ">>") 9 RightSide
-    ∷ []
+    row (codes "<|") 0 ToRight ∷ row (codes "|>") 0 ToLeft
+    ∷ row (codes "||") 2 ToRight ∷ row (codes "&&") 3 ToRight
+    ∷ row (codes "==") 4 Neither ∷ row (codes "/=") 4 Neither ∷ row (codes "<") 4 Neither ∷ row (codes ">") 4 Neither
+    ∷ row (codes "<=") 4 Neither ∷ row (codes ">=") 4 Neither
+    ∷ tight_rows
 
 -- any other operator is grouped as if of level 10, to the left
 abbrev pub row_among : List ℕ → List Row → Row
-row_among op [] = row op 10 LeftSide
+row_among op [] = row op 10 ToLeft
 row_among op (r ∷ rs) = if bytes_eq op r.text then r else row_among op rs
 
 unfoldable pub row_of : List ℕ → Row
@@ -49,17 +50,17 @@ abbrev pub side_of : Word → Side
 side_of op = (row_of op.text).side
 
 abbrev pub is_left : Side → Bool
-is_left LeftSide = true
+is_left ToLeft = true
 is_left _ = false
 
 abbrev pub is_right : Side → Bool
-is_right RightSide = true
+is_right ToRight = true
 is_right _ = false
 
 -- of two operators of one level, p before q: they do not group
 abbrev pub clash_of : Side → Side → Bool
-clash_of LeftSide LeftSide = false
-clash_of RightSide RightSide = false
+clash_of ToLeft ToLeft = false
+clash_of ToRight ToRight = false
 clash_of _ _ = true
 
 -- ---- the tree
@@ -109,16 +110,23 @@ module _ {A : Type 0} where
     pub goes_on : others_of tree ≡ others
     pub grouped : IsTrue (is_grouped tree)
 
-  -- an operand and an operator before a tree: they go down its left side to where the tree may be the operator's
-  -- right part
-  abbrev pub put_before : A → Word → Tree A → Tree A
-  put_before a op (Leaf b) = Node (Leaf a) op (Leaf b)
-  put_before a op (Node l p r) =
-      if may_stand_right p op then Node (Leaf a) op (Node l p r) else Node (put_before a op l) p r
+  -- the trees to the left, each with the operator after it, the nearest first, are joined with the tree after them
+  abbrev pub closed : List (Tree A × Word) → Tree A → Tree A
+  closed [] t = t
+  closed (w ∷ ws) t = closed ws (Node w.0 w.1 t)
 
+  -- an operator comes after the tree: what it takes as its left part is joined
+  abbrev pub opened : List (Tree A × Word) → Tree A → Word → List (Tree A × Word)
+  opened [] t op = (t, op) ∷ []
+  opened (w ∷ ws) t op = if may_stand_left w.1 op then opened ws (Node w.0 w.1 t) op else (t, op) ∷ w ∷ ws
+
+  abbrev pub grouped_after : List (Tree A × Word) → Tree A → List (Word × A) → Tree A
+  grouped_after ws t [] = closed ws t
+  grouped_after ws t (o ∷ others) = grouped_after (opened ws t o.0) (Leaf o.1) others
+
+  -- from left to right
   unfoldable pub grouped : A → List (Word × A) → Tree A
-  grouped a [] = Leaf a
-  grouped a (o ∷ others) = put_before a o.0 (grouped o.1 others)
+  grouped a others = grouped_after [] (Leaf a) others
 
 -- ---- the tree as a list of turns, so that no tree has to be made
 
@@ -137,7 +145,7 @@ numbered n [] = []
 numbered n (op ∷ ops) = (op, n) ∷ numbered (suc n) ops
 
 -- the turns of a chain with these operators
-abbrev pub turns : List Word → List Turn
+unfoldable pub turns : List Word → List Turn
 turns ops = turns_of (grouped 0 (numbered 1 ops))
 
 -- ---- operators that do not group

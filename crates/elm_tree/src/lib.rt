@@ -2,4 +2,6 @@
 #![tactic(auto)]
 
 pub mod laws;
+pub mod operator;
 pub mod tree;
+pub mod turns;

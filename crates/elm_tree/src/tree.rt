@@ -9,7 +9,7 @@
 //! open at once.
 
 /// A word of the text: the number of its token.
-#[derive(Clone, Copy)]
+#[derive(Clone, Copy, Debug, PartialEq, Eq)]
 pub struct Word {
     pub index: u32,
 }

@@ -1,9 +1,9 @@
 use Rattle.std.specs.Prelude.{refl}
-use Rattle.elm_tree.specs.Regroup.{row_of, grouped, clashing}
+use Rattle.elm_tree.specs.Regroup.{row_of, grouped, turns, clashing}
 use Rattle.elm_tree.proofs.laws.examples.Goals as goal
 
 pub returns : goal.returns
-unfolding row_of grouped clashing
+unfolding row_of grouped turns clashing
 returns c = record {
   to_the_left = refl;
   to_the_right = refl;

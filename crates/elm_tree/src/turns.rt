@@ -1,0 +1,87 @@
+//! A chain of operators, worked off: each operator comes after what it joins. So no tree of the chain has to be made.
+
+ghost use Rattle.std.specs.Prelude.{◌≡◌, ◌++◌, [], map, reverse, IfOk, IfErr, OnOk};
+ghost use Rattle.elm_tree.specs.Regroup.{level_of, side_of, may_stand_left, clash_of, clashes_after, turns};
+ghost use Rattle.elm_tree.specs.View.{word_view, words_view};
+ghost use Rattle.elm_tree.specs.Turns.{tokens_view, turn_view, clashes, IfClash, BeginsWith};
+ghost use Rattle.elm_tree.specs.declared.turns.Ungrouped.TheVariants.{Memory};
+
+
+use crate::operator::{Side, Strength, strength_of};
+use crate::tree::Word;
+use elm_lexer::token::Token;
+use std::alloc::{AllocError, AllocFailed, Global};
+
+/// What comes next where a chain is worked off.
+#[derive(Clone, Copy, Debug, PartialEq, Eq)]
+pub enum Turn {
+    /// The operand with this number in the chain, from 0 on.
+    Operand(usize),
+    /// The last two things that are not joined yet are joined by the operator.
+    Join(Word),
+}
+
+/// Why a chain was not worked off.
+#[derive(Clone, Copy, Debug)]
+pub enum Ungrouped {
+    /// Out of memory.
+    Memory,
+    /// The operator does not group with one before it.
+    Clash(Word),
+}
+
+impl<T: Drop> From<AllocFailed<T>> for Ungrouped {
+    ghost from_gives = { λ _ e. e ≡ Memory };
+
+    fn from(_failed: AllocFailed<T>) -> Ungrouped {
+        Ungrouped::Memory
+    }
+}
+
+impl From<AllocError> for Ungrouped {
+    ghost from_gives = { λ _ e. e ≡ Memory };
+
+    fn from(_failed: AllocError) -> Ungrouped {
+        Ungrouped::Memory
+    }
+}
+
+fn text_at<'a>(tokens: &[Token<'a>], word: Word) -> &'a [u8]
+    ensures { result.now ≡ (word_view (tokens_view tokens.now) word).text }
+{
+    match tokens.get(word.index as usize) {
+        Some(token) => token.text,
+        None => b"",
+    }
+}
+
+fn strength_at(tokens: &[Token<'_>], word: Word) -> Strength
+    ensures level { result.level ≡ level_of (word_view (tokens_view tokens.now) word) }
+    ensures side { result.side ≡ side_of (word_view (tokens_view tokens.now) word) }
+{
+    strength_of(text_at(tokens, word))
+}
+
+/// Whether operators of one level do not group, the first before the second.
+fn differ(before: Side, after: Side) -> bool
+    ensures { result ≡ clash_of before after }
+{
+    match (before, after) {
+        (Side::ToLeft, Side::ToLeft) | (Side::ToRight, Side::ToRight) => false,
+        _ => true,
+    }
+}
+
+/// Whether an operator is joined before the one that comes after it.
+fn joins_first(tokens: &[Token<'_>], before: Word, operator: Word) -> bool
+    ensures { result ≡ may_stand_left (word_view (tokens_view tokens.now) before) (word_view (tokens_view tokens.now) operator) }
+{
+    let left = strength_at(tokens, before);
+    let right = strength_at(tokens, operator);
+    if left.level > right.level {
+        return true;
+    }
+    left.level == right.level
+        && matches!(left.side, Side::ToLeft)
+        && matches!(right.side, Side::ToLeft)
+}
