@@ -1,9 +1,9 @@
 -- Chains are grouped in one way. What waits to the left of an operator fits, so that joining it keeps each operator
 -- where it may stand; and a tree that is grouped is read back from its operands and operators.
-use Rattle.std.proofs.Common.{◌≡◌, ℕ, List, [], ◌∷◌, ◌++◌, Bool, true, false, ◌&&◌, if◌then◌else◌, nat_lt, nat_eq, map, refl, sym, ap, subst, ◌∙◌, append_assoc, append-nil}
+use Rattle.std.proofs.Common.{◌≡◌, List, [], ◌∷◌, ◌++◌, Bool, true, false, ◌&&◌, if◌then◌else◌, nat_lt, nat_eq, refl, sym, ap, ◌∙◌, append_assoc, append-nil}
 use Rattle.elm_tree.specs.Tree.{Word}
 use Rattle.elm_tree.specs.Regroup.{Tree, Leaf, Node, level_of, side_of, clash_of, may_stand_left, may_stand_right, first_of, others_of, left_fits, right_fits, is_grouped, Regroup, closed, opened, grouped_after, grouped, clashes_after, clashing_from, clashing, added_if, GroupsWell, GroupsOnce}
-use Rattle.elm_tree.proofs.Levels.{left_left, right_left, left_right, right_stays, clash_right, passes, next_free}
+use Rattle.elm_tree.proofs.Levels.{right_left, left_right, right_stays, clash_right, passes, next_free}
 
 -- the operators that wait decide whether an operator clashes as all before it do
 abbrev pub Decided : List Word → List Word → Type 0
@@ -67,6 +67,7 @@ module _ {A : Type 0} where
           next_free (level_of w.1) (side_of w.1) (level_of op) (side_of op) (level_of u.1) (side_of u.1)
           (clashes_after (words us) op) (clash_of (side_of u.1) (side_of op))
           (nat_eq (level_of w.1) (level_of op) && clash_of (side_of w.1) (side_of op)) e b m
+
       by : (b : Bool) → may_stand_left w.1 op ≡ b →
           (may_stand_left w.1 op ≡ true → Waits (opened ws (Node w.0 w.1 t) op)) →
           Waits (if b then opened ws (Node w.0 w.1 t) op else (t, op) ∷ w ∷ ws)
@@ -140,9 +141,10 @@ module _ {A : Type 0} where
       (first_of (grouped_after ws t os) ≡ starts ws t) × (others_of (grouped_after ws t os) ≡ others ws t ++ os)
   ordered ws t [] = (starts_closed ws t, others_closed ws t ∙ sym (append-nil (others ws t)))
   ordered ws t (o ∷ os) =
-      let h = ordered (opened ws t o.0) (Leaf o.1) os in
-      (h.0 ∙ starts_opened ws t o.0 (Leaf o.1),
-      h.1 ∙ ap (λ z. z ++ os) (others_opened ws t o.0 o.1) ∙ append_assoc (others ws t) ((o.0, o.1) ∷ []) os)
+      let h = ordered (opened ws t o.0) (Leaf o.1) os in (
+        h.0 ∙ starts_opened ws t o.0 (Leaf o.1),
+        h.1 ∙ ap (λ z. z ++ os) (others_opened ws t o.0 o.1) ∙ append_assoc (others ws t) ((o.0, o.1) ∷ []) os,
+      )
 
   decided_open : (ws : List (Tree A × Word)) (t : Tree A) (p : Word) (op : Word) →
       nat_lt (level_of op) (level_of p) ≡ true →

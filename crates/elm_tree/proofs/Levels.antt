@@ -161,14 +161,18 @@ next_free p s q t r u rest x y e f h =
       where
         not_less : nat_lt q r ≡ true → ⊥
         not_less z = grind (arith, nat_tests)
+
         not_same : nat_eq r q ≡ true → ⊥
         not_same z = grind (arith, nat_tests)
+
         tests : (a b : Bool) → nat_lt q r ≡ a → nat_eq r q ≡ b → (if a then rest else (b && x)) ≡ false
         tests true b z w = absurd (not_less z)
         tests false true z w = absurd (not_same w)
         tests false false z w = refl
+
     less : nat_lt q p ≡ false → q < p → ⊥
     less z w = grind (arith, nat_tests)
+
     go : (a : Bool) → nat_lt q p ≡ a → Higher is_left p s q t → Higher is_right p s r u →
         (if a then (if nat_lt q r then rest else (nat_eq r q && x)) else y) ≡ false →
         (if nat_lt q r then rest else (nat_eq r q && x)) ≡ false
@@ -184,6 +188,7 @@ passes p s q t r rest other e f = go (nat_lt r p) refl (higher_of is_left p s q 
   where
     less : nat_lt r p ≡ false → r < p → ⊥
     less u v = grind (arith, nat_tests)
+
     go : (a : Bool) → nat_lt r p ≡ a → Higher is_left p s q t → (if a then rest else other) ≡ rest
     go true g h = refl
     go false g (inl x) = let y = above_lt q r f in absurd (less g (omega arith))

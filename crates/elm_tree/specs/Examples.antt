@@ -5,7 +5,7 @@ use Rattle.elm_lexer.specs.declared.token.Kind.TheVariants.{QualifiedLower, Uppe
 use Rattle.elm_lexer.specs.Tokens.{Token}
 use Rattle.elm_tree.specs.Tree.{Pos, Word, Is, Name, Constructor, Accessor, IntL}
 use Rattle.elm_tree.specs.Words.{expr_of}
-use Rattle.elm_tree.specs.Regroup.{Tree, Leaf, Node, grouped, clashing, Operand, Join, turns}
+use Rattle.elm_tree.specs.Regroup.{Leaf, Node, grouped, clashing, Operand, Join, turns}
 
 -- an operator in row 1
 abbrev pub at : ℕ → List ℕ → Word

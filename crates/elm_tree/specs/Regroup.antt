@@ -2,9 +2,8 @@
 -- that binds tighter stands below; of one level, left ones have the others to their left and right ones to their
 -- right. A tree is determined by that (`Regroup`), and `grouped` is one that meets it wherever no two operators
 -- clash. What the operands are does not matter: a phase groups the meanings of the operands.
-use Rattle.std.specs.Prelude.{◌≡◌, ℕ, suc, List, [], ◌∷◌, ◌++◌, Bool, true, false, not, ◌&&◌, ◌||◌, nat_lt, nat_eq, if◌then◌else◌, codes, IsTrue, filter_map}
+use Rattle.std.specs.Prelude.{◌≡◌, ℕ, suc, List, [], ◌∷◌, ◌++◌, Bool, true, false, ◌&&◌, ◌||◌, nat_lt, nat_eq, if◌then◌else◌, codes, IsTrue}
 use Rattle.std.specs.Str.{bytes_eq}
-use Rattle.std.specs.List.{list_any}
 use Rattle.elm_tree.specs.Tree.{Word}
 use Rattle.elm_tree.specs.declared.operator.Side.{Side}
 use Rattle.elm_tree.specs.declared.operator.Side.TheVariants.{ToLeft, ToRight, Neither}
@@ -147,6 +146,16 @@ numbered n (op ∷ ops) = (op, n) ∷ numbered (suc n) ops
 -- the turns of a chain with these operators
 unfoldable pub turns : List Word → List Turn
 turns ops = turns_of (grouped 0 (numbered 1 ops))
+
+-- the same by the operators that wait for their right part, the nearest first: those that an operator joins before it
+-- waits itself, and those that wait on
+abbrev pub joined : List Word → Word → List Word
+joined [] op = []
+joined (p ∷ ps) op = if may_stand_left p op then p ∷ joined ps op else []
+
+abbrev pub kept : List Word → Word → List Word
+kept [] op = []
+kept (p ∷ ps) op = if may_stand_left p op then kept ps op else p ∷ ps
 
 -- ---- operators that do not group
 

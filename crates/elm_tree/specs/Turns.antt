@@ -1,5 +1,5 @@
 -- The turns of a chain, as the program has them.
-use Rattle.std.specs.Prelude.{◌≡◌, ℕ, List, [], ◌∷◌, map, ⊤}
+use Rattle.std.specs.Prelude.{◌≡◌, List, ◌∷◌, map, reverse, ⊤}
 use Rattle.elm_lexer.specs.declared.token.Token as lexed
 use Rattle.elm_lexer.specs.Tokens.{Token}
 use Rattle.elm_lexer.specs.View as lexer
@@ -29,3 +29,7 @@ IfClash (fault.Ungrouped.Clash op) Holds = Holds op
 -- the list begins with x
 abbrev pub BeginsWith : List declared.Word → declared.Word → Type 0
 BeginsWith xs x = (rest : List declared.Word) × (xs ≡ x ∷ rest)
+
+-- operators that wait for their right part, the nearest first
+abbrev pub nearest : List Token → List declared.Word → List Word
+nearest tokens ops = map (word_view tokens) (reverse ops)

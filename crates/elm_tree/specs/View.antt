@@ -1,5 +1,5 @@
 -- What a tree of the program is, given the tokens of the module.
-use Rattle.std.specs.Prelude.{ℕ, List, [], ◌∷◌, map, Option, Some, None, option_map}
+use Rattle.std.specs.Prelude.{List, map, Option, Some, None, option_map}
 use Rattle.elm_lexer.specs.Tokens.{Token}
 use Rattle.elm_tree.specs.Tree as plain
 use Rattle.elm_tree.specs.Tree.{types_of, field_types_of, patterns_of, exprs_of, parts_of, branches_of, definitions_of}

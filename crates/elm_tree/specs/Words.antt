@@ -1,8 +1,8 @@
 -- What single tokens are in a tree. A tree of the program names each by its number in the list of tokens.
-use Rattle.std.specs.Prelude.{ℕ, ◌-◌, pos, neg_ℤ, List, [], ◌∷◌, length, take, drop, get_or, Bool, true, false, if◌then◌else◌}
+use Rattle.std.specs.Prelude.{ℕ, ◌-◌, pos, neg_ℤ, List, [], length, take, drop, get_or, Bool, false, if◌then◌else◌}
 use Rattle.elm_lexer.specs.declared.token.Kind.{Kind}
 use Rattle.elm_lexer.specs.declared.token.Kind.TheVariants as kind
-use Rattle.elm_lexer.specs.Tokens.{Place, Token, first_place}
+use Rattle.elm_lexer.specs.Tokens.{Token, first_place}
 use Rattle.elm_lexer.specs.Kinds.{last_word}
 use Rattle.elm_lexer.specs.Literals.{literal_units}
 use Rattle.elm_tree.specs.Tree.{Pos, Word, Long, Literal, IntL, CharL, TextL, Expr, Is, Name, Constructor, OperatorName, Accessor, Pattern, Anything, Named, Exactly, Exposed, OneValue, OneType, OpenType, OneOperator}
