@@ -65,10 +65,10 @@ type_step tokens (TypeTree-F.Record base fs) = record_type tokens base fs.items
 abbrev pub field_type_step : List Token → FieldType-F plain.TypeTree NamedType → NamedType
 field_type_step tokens f = (word_view tokens f.name, f.field_type)
 
-abbrev pub type_view : List Token → TypeTree → plain.TypeTree
+unfoldable pub type_view : List Token → TypeTree → plain.TypeTree
 type_view tokens = fold-TypeTree plain.TypeTree NamedType (type_step tokens) (field_type_step tokens)
 
-abbrev pub field_type_view : List Token → FieldType → NamedType
+unfoldable pub field_type_view : List Token → FieldType → NamedType
 field_type_view tokens = fold-FieldType plain.TypeTree NamedType (type_step tokens) (field_type_step tokens)
 
 -- ---- patterns
@@ -85,7 +85,7 @@ pattern_step tokens (Pattern-F.Fields first xs) =
     plain.FieldsPattern (place_view tokens first) (words_view tokens xs.items)
 pattern_step tokens (Pattern-F.As first p x) = plain.As (place_view tokens first) p.value (word_view tokens x)
 
-abbrev pub pattern_view : List Token → Pattern → plain.Pattern
+unfoldable pub pattern_view : List Token → Pattern → plain.Pattern
 pattern_view tokens = fold-Pattern plain.Pattern (pattern_step tokens)
 
 abbrev pub patterns_view : List Token → List Pattern → plain.Patterns
@@ -133,22 +133,22 @@ branch_step tokens b = (pattern_view tokens b.pattern, b.body)
 abbrev pub part_step : List Token → Part-F plain.Definition plain.Expr BranchView WordExpr → WordExpr
 part_step tokens p = (word_view tokens p.word, p.value)
 
-abbrev pub expr_view : List Token → Expr → plain.Expr
+unfoldable pub expr_view : List Token → Expr → plain.Expr
 expr_view tokens =
     fold-Expr plain.Definition plain.Expr BranchView WordExpr (definition_step tokens) (expr_step tokens)
     (branch_step tokens) (part_step tokens)
 
-abbrev pub definition_view : List Token → Definition → plain.Definition
+unfoldable pub definition_view : List Token → Definition → plain.Definition
 definition_view tokens =
     fold-Definition plain.Definition plain.Expr BranchView WordExpr (definition_step tokens) (expr_step tokens)
     (branch_step tokens) (part_step tokens)
 
-abbrev pub branch_view : List Token → Branch → BranchView
+unfoldable pub branch_view : List Token → Branch → BranchView
 branch_view tokens =
     fold-Branch plain.Definition plain.Expr BranchView WordExpr (definition_step tokens) (expr_step tokens)
     (branch_step tokens) (part_step tokens)
 
-abbrev pub part_view : List Token → Part → WordExpr
+unfoldable pub part_view : List Token → Part → WordExpr
 part_view tokens =
     fold-Part plain.Definition plain.Expr BranchView WordExpr (definition_step tokens) (expr_step tokens)
     (branch_step tokens) (part_step tokens)
