@@ -145,14 +145,15 @@ found g (suc n) (Derive inside c (Line k ∷ ss) ts) q e =
     taken a_line (found g n (Among (options g true k) leading c c ss ts) q e k (some_options g true k))
 found g (suc n) (Derive leading c (Line k ∷ ss) ts) q e = absurd cc
 found g (suc n) (Derive inside c (Block k ∷ ss) []) q e = absurd cc
-found g (suc n) (Derive inside c (Block k ∷ ss) (t ∷ ts)) q e = by (nat_lt c t.column) refl e
+found g (suc n) (Derive inside c (Block k ∷ ss) (t ∷ ts)) q e =
+    by (nat_lt c t.column) refl e (λ h. found g n (Among (options g true k) inside t.column c ss (t ∷ ts)) q h)
   where
     by : (b : Bool) → nat_lt c t.column ≡ b → seek g n (Among (options g b k) inside t.column c ss (t ∷ ts)) ≡ Some q →
+        (seek g n (Among (options g true k) inside t.column c ss (t ∷ ts)) ≡ Some q →
+        Good g (Among (options g true k) inside t.column c ss (t ∷ ts)) q) →
         Derives g inside c (Block k ∷ ss) q.0 (t ∷ ts) q.1
-    by true f h =
-        taken (a_block (ltb-true c t.column f))
-        (found g n (Among (options g true k) inside t.column c ss (t ∷ ts)) q h k (some_options g true k))
-    by false f h = absurd (nowhere g n t.column c ss (t ∷ ts) q h)
+    by true f h more = taken (a_block (ltb-true c t.column f)) (more h k (some_options g true k))
+    by false f h more = absurd (nowhere g n t.column c ss (t ∷ ts) q h)
 found g (suc n) (Derive leading c (Block k ∷ ss) ts) q e = absurd cc
 found g (suc n) (Matched false c t ss ts) q e = absurd cc
 found g (suc n) (Matched true c t ss ts) q e =
@@ -243,18 +244,23 @@ valued tokens (k ∷ ks) (grammar.word t x) vs e =
     subst (Means tokens (grammar.word t x) (k ∷ ks)) u.is
     (cast_thing_same (One item.Word) k (token_at tokens t.index) u.first u.one
     (λ l z. Means tokens (grammar.word t x) (l ∷ ks) (◌⸴◌ {k = l} z u.others)) (meaning.a_word m))
-valued tokens (k ∷ ks) (node p x y) vs e = by (values tokens (takes (action_at p)) x) refl e
+valued tokens (k ∷ ks) (node p x y) vs e =
+    by (values tokens (takes (action_at p)) x) refl e (λ us f. valued tokens (takes (action_at p)) x us f)
+    (λ us f. valued tokens ks y us f)
   where
     by : (o : Option (Things (takes (action_at p)))) → values tokens (takes (action_at p)) x ≡ o →
-        paired k ks (cast_made k p o) (values tokens ks y) ≡ Some vs → Means tokens (node p x y) (k ∷ ks) vs
-    by None f g = absurd cc
-    by (Some us) f g =
+        paired k ks (cast_made k p o) (values tokens ks y) ≡ Some vs →
+        ((us : Things (takes (action_at p))) → values tokens (takes (action_at p)) x ≡ Some us →
+        Means tokens x (takes (action_at p)) us) →
+        ((us : Things ks) → values tokens ks y ≡ Some us → Means tokens y ks us) →
+        Means tokens (node p x y) (k ∷ ks) vs
+    by None f g below after = absurd cc
+    by (Some us) f g below after =
         let u = unpaired k ks (cast_made k p (Some us)) (values tokens ks y) vs g in
-        let m = valued tokens ks y u.others u.two in
-        let below = valued tokens (takes (action_at p)) x us f in
         subst (Means tokens (node p x y) (k ∷ ks)) u.is
         (cast_thing_same (gives (action_at p)) k (made (action_at p) us) u.first u.one
-        (λ l z. Means tokens (node p x y) (l ∷ ks) (◌⸴◌ {k = l} z u.others)) (meaning.a_node below m))
+        (λ l z. Means tokens (node p x y) (l ∷ ks) (◌⸴◌ {k = l} z u.others))
+        (meaning.a_node (below us f) (after u.others u.two)))
 
 -- ---- each value is the only one
 
@@ -283,13 +289,20 @@ cast_thing_own : (k : Kind) (x : Thing k) → cast_thing k k x ≡ Some x
 cast_thing_own (One i) x = cast_own thing_of i x
 cast_thing_own (Many i) xs = cast_own (λ l. List (thing_of l)) i xs
 
+pairs : (k : Kind) (ks : List Kind) (v : Thing k) (vs : Things ks) {a : Option (Thing k)} {b : Option (Things ks)} →
+    a ≡ Some v → b ≡ Some vs → paired k ks a b ≡ Some (◌⸴◌ {k = k} v vs)
+pairs k ks v vs e f = rw (e, f) refl
+
 pub means_valued : {tokens : List Token} {x : Tree} {ks : List Kind} {vs : Things ks} → Means tokens x ks vs →
     values tokens ks x ≡ Some vs
 means_valued meaning.nothing = refl
-means_valued {tokens = tokens} (meaning.a_word {t = t} {ks = ks} m) =
-    rw (cast_thing_own (One item.Word) (token_at tokens t.index), means_valued m) refl
-means_valued (meaning.a_node {p = p} {us = us} m n) =
-    rw (means_valued m, means_valued n, cast_thing_own (gives (action_at p)) (made (action_at p) us)) refl
+means_valued {tokens = tokens} (meaning.a_word {t = t} {ks = ks} {vs = vs} m) =
+    pairs (One item.Word) ks (token_at tokens t.index) vs
+    (cast_thing_own (One item.Word) (token_at tokens t.index)) (means_valued m)
+means_valued (meaning.a_node {p = p} {ks = ks} {us = us} {vs = vs} m n) =
+    pairs (gives (action_at p)) ks (made (action_at p) us) vs
+    (ap (cast_made (gives (action_at p)) p) (means_valued m)
+    ∙ cast_thing_own (gives (action_at p)) (made (action_at p) us)) (means_valued n)
 
 -- a derivation stands for one value alone
 pub one_value : (tokens : List Token) (x : Tree) (k : Kind) (v w : Thing k) →
