@@ -3,7 +3,7 @@ use Rattle.std.specs.Prelude.{ℕ, suc, ◌+◌, Bool, true, false, ◌&&◌, if
 use Rattle.std.specs.List.{list_any}
 use Rattle.std.specs.Str.{bytes_eq}
 use Rattle.elm_lexer.specs.declared.token.Kind.{Kind}
-use Rattle.elm_lexer.specs.declared.token.Kind.TheVariants.{If, Then, Else, Case, Of, Let, In, «Type», Module, Where, Import, Exposing, As, Port, LowerName, UpperName, QualifiedLower, QualifiedUpper, Int, Text, Char, Field, Underscore, OpenParen, CloseParen, OpenBrace, CloseBrace, OpenBracket, CloseBracket, Comma, Backslash, Equals, Arrow, Colon, Bar, Dot, Dots, Operator}
+use Rattle.elm_lexer.specs.declared.token.Kind.TheVariants.{If, Then, Else, Case, Of, Let, In, «Type», Module, Import, Exposing, As, Port, LowerName, UpperName, QualifiedLower, QualifiedUpper, Int, Text, Char, Field, Underscore, OpenParen, CloseParen, OpenBrace, CloseBrace, OpenBracket, CloseBracket, Comma, Backslash, Equals, Arrow, Colon, Bar, Dots, Operator}
 use Rattle.elm_lexer.specs.Tokens.{Token}
 use Rattle.parse_machine.specs.declared.table.Token as machine
 
@@ -160,46 +160,53 @@ operator_class t =
     if bytes_eq t.text (codes "-") then minus_class t.space_before t.space_after
     else (if bytes_eq t.text (codes "::") then cons else operator)
 
+-- a reserved word; `where` and a point alone stand nowhere
+abbrev pub word_class : Kind → ℕ
+word_class If = if_
+word_class Then = then_
+word_class Else = else_
+word_class Case = case_
+word_class Of = of_
+word_class Let = let_
+word_class In = in_
+word_class «Type» = type_
+word_class Module = module_
+word_class Import = import
+word_class Exposing = exposing
+word_class As = as_
+word_class Port = port
+word_class _ = other
+
+-- a token whose kind alone tells its class
+abbrev pub plain_class : Kind → ℕ
+plain_class UpperName = upper
+plain_class QualifiedLower = qualified
+plain_class QualifiedUpper = qualified_upper
+plain_class (Int n) = number
+plain_class Text = text
+plain_class Char = text
+plain_class Underscore = underscore
+plain_class OpenParen = open_paren
+plain_class CloseParen = close_paren
+plain_class OpenBracket = open_square
+plain_class CloseBracket = close_square
+plain_class OpenBrace = open_brace
+plain_class CloseBrace = close_brace
+plain_class Comma = comma
+plain_class Equals = equals
+plain_class Arrow = arrow
+plain_class Colon = colon
+plain_class Bar = bar
+plain_class Dots = dots
+plain_class Backslash = backslash
+plain_class kind = word_class kind
+
 -- by its kind, after a token of the class `before`
 abbrev pub class_by : Kind → ℕ → Token → ℕ
 class_by LowerName before t = name_class before t.text
-class_by UpperName before t = upper
-class_by QualifiedLower before t = qualified
-class_by QualifiedUpper before t = qualified_upper
-class_by (Int n) before t = number
-class_by Text before t = text
-class_by Char before t = text
 class_by Field before t = field_class before t.space_before
 class_by Operator before t = operator_class t
-class_by Underscore before t = underscore
-class_by OpenParen before t = open_paren
-class_by CloseParen before t = close_paren
-class_by OpenBracket before t = open_square
-class_by CloseBracket before t = close_square
-class_by OpenBrace before t = open_brace
-class_by CloseBrace before t = close_brace
-class_by Comma before t = comma
-class_by Equals before t = equals
-class_by Arrow before t = arrow
-class_by Colon before t = colon
-class_by Bar before t = bar
-class_by Dots before t = dots
-class_by Backslash before t = backslash
-class_by If before t = if_
-class_by Then before t = then_
-class_by Else before t = else_
-class_by Case before t = case_
-class_by Of before t = of_
-class_by Let before t = let_
-class_by In before t = in_
-class_by «Type» before t = type_
-class_by Module before t = module_
-class_by Import before t = import
-class_by Exposing before t = exposing
-class_by As before t = as_
-class_by Port before t = port
-class_by Where before t = other
-class_by Dot before t = other
+class_by kind before t = plain_class kind
 
 -- the tokens as the grammar sees them, numbered from n on, after a token of the class `before`
 abbrev pub classed_from : ℕ → ℕ → List Token → List machine.Token

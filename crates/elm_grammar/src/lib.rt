@@ -2,5 +2,6 @@
 #![tactic(auto)]
 
 pub mod action;
+pub mod classes;
 pub mod laws;
 pub mod table;
