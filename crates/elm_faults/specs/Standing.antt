@@ -50,8 +50,7 @@ pub data Stands (tokens : List Token) (n column : ℕ) (ts : List machine.Token)
 abbrev pub WhicheverText : Type 0
 WhicheverText =
     (tokens : List Token) (n column : ℕ) (front : List machine.Token) (x y : Text n column front) (d : Decided) →
-    Numbered 0 front → Contains (faults_of tokens x.tree) d → Within (length front) d →
-    Contains (faults_of tokens y.tree) d
+    Contains (faults_of tokens x.tree) d → Within (length front) d → Contains (faults_of tokens y.tree) d
 
 -- ---- which fault is reported
 

@@ -1,6 +1,5 @@
--- Small texts, worked out: the trees that they spell, and their faults.
+-- Small texts, worked out: the trees that they spell.
 use Rattle.std.specs.Prelude.{◌≡◌, ℕ, pos, List, [], ◌∷◌, Bool, true, false, Option, Some, None, codes}
-use Rattle.elm_base.specs.declared.fault.Code.TheVariants.{MixedOperators, TupleTooLarge, LoneAnnotation}
 use Rattle.elm_lexer.specs.declared.token.Kind.{Kind}
 use Rattle.elm_lexer.specs.declared.token.Kind.TheVariants.{Case, Of, Let, In, «Type», Module, Exposing, Port, As, LowerName, UpperName, QualifiedLower, QualifiedUpper, Int, Text, Field, Underscore, OpenParen, CloseParen, OpenBrace, CloseBrace, Comma, Equals, Arrow, Colon, Bar, Dots, Backslash, Operator}
 use Rattle.elm_lexer.specs.Tokens.{Token}
@@ -9,7 +8,7 @@ use Rattle.elm_tree.specs.Tree.{Pos, Word, Long, Expr, Is, IntL, OperatorName, A
 use Rattle.elm_grammar.specs.Table as table
 use Rattle.elm_grammar.specs.Values.{expr, shape, type_tree, One}
 use Rattle.elm_grammar.specs.declared.action.Item.TheVariants as item
-use Rattle.elm_grammar.specs.Search.{read, faults}
+use Rattle.elm_grammar.specs.Search.{read}
 
 -- ---- tokens: a kind, a row, a column and a text, with white space before and after it, or on one side, or on none
 
@@ -247,56 +246,3 @@ PortModule =
       declarations = tree.Port (word 2 6 (codes "p"))
           (TypeName (long 2 10 (codes "T")) NoType) ∷ [];
     })
-
--- ---- the faults of texts, each at the number of its token
-
--- ( a, b, c, d ): the third comma
-abbrev pub FourParts : Type 0
-FourParts =
-    faults table.Expression 0
-    (trailing OpenParen 1 1 (codes "(") ∷ leading LowerName 1 3 (codes "a") ∷ trailing Comma 1 4 (codes ",")
-    ∷ leading LowerName 1 6 (codes "b") ∷ trailing Comma 1 7 (codes ",") ∷ leading LowerName 1 9 (codes "c")
-    ∷ trailing Comma 1 10 (codes ",") ∷ apart LowerName 1 12 (codes "d") ∷ leading CloseParen 1 14 (codes ")") ∷ [])
-    ≡ Some ((6, TupleTooLarge) ∷ [])
-
--- ( a, b, c )
-abbrev pub ThreeParts : Type 0
-ThreeParts =
-    faults table.Expression 0
-    (trailing OpenParen 1 1 (codes "(") ∷ leading LowerName 1 3 (codes "a") ∷ trailing Comma 1 4 (codes ",")
-    ∷ leading LowerName 1 6 (codes "b") ∷ trailing Comma 1 7 (codes ",") ∷ apart LowerName 1 9 (codes "c")
-    ∷ leading CloseParen 1 11 (codes ")") ∷ [])
-    ≡ Some ([])
-
--- a == b == c: the second operator
-abbrev pub Comparisons : Type 0
-Comparisons =
-    faults table.Expression 0
-    (trailing LowerName 1 1 (codes "a") ∷ apart Operator 1 3 (codes "==") ∷ apart LowerName 1 6 (codes "b")
-    ∷ apart Operator 1 8 (codes "==") ∷ leading LowerName 1 11 (codes "c") ∷ [])
-    ≡ Some ((3, MixedOperators) ∷ [])
-
--- an annotation before the definition of another name
-abbrev pub LoneInLet : Type 0
-LoneInLet =
-    faults table.Expression 0
-    (trailing Let 1 1 (codes "let") ∷ apart LowerName 2 3 (codes "x") ∷ apart Colon 2 5 (codes ":")
-    ∷ apart UpperName 2 7 (codes "T") ∷ apart LowerName 3 3 (codes "y") ∷ apart Equals 3 5 (codes "=")
-    ∷ apart (Int 1) 3 7 (codes "1") ∷ apart In 4 1 (codes "in") ∷ leading LowerName 4 4 (codes "y") ∷ [])
-    ≡ Some ((1, LoneAnnotation) ∷ [])
-
--- the same before its own definition
-abbrev pub WithDefinition : Type 0
-WithDefinition =
-    faults table.Expression 0
-    (trailing Let 1 1 (codes "let") ∷ apart LowerName 2 3 (codes "x") ∷ apart Colon 2 5 (codes ":")
-    ∷ apart UpperName 2 7 (codes "T") ∷ apart LowerName 3 3 (codes "x") ∷ apart Equals 3 5 (codes "=")
-    ∷ apart (Int 1) 3 7 (codes "1") ∷ apart In 4 1 (codes "in") ∷ leading LowerName 4 4 (codes "x") ∷ [])
-    ≡ Some ([])
-
--- x : T at the end of a module
-abbrev pub LoneAtEnd : Type 0
-LoneAtEnd =
-    faults table.Module 1
-    (trailing LowerName 1 1 (codes "x") ∷ apart Colon 1 3 (codes ":") ∷ leading UpperName 1 5 (codes "T") ∷ [])
-    ≡ Some ((0, LoneAnnotation) ∷ [])

@@ -3,7 +3,5 @@ pub mod Table
 pub mod Values
 pub mod Kinded
 pub mod Meaning
-pub mod Faults
-pub mod Reading
 pub mod Search
 pub mod Examples

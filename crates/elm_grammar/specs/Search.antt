@@ -13,7 +13,6 @@ use Rattle.elm_grammar.specs.Classes.{classed}
 use Rattle.elm_grammar.specs.Table.{elm}
 use Rattle.elm_grammar.specs.Values.{Kind, One, Many, Thing, thing_of, takes, gives}
 use Rattle.elm_grammar.specs.Meaning.{Things, none, ◌⸴◌, action_at, made}
-use Rattle.elm_grammar.specs.Faults.{Finding, faults_of}
 
 -- ---- derivations
 
@@ -151,11 +150,3 @@ value_of tokens k None = None
 -- what the tokens spell as nonterminal n under the column, if anything
 abbrev pub read : (n column : ℕ) (k : Kind) → List Token → Option (Thing k)
 read n column k tokens = value_of tokens k (derived n column tokens)
-
-abbrev pub found_faults : List Token → Option Tree → Option (List Finding)
-found_faults tokens (Some x) = Some (faults_of tokens x)
-found_faults tokens None = None
-
--- the faults of what they spell
-abbrev pub faults : (n column : ℕ) → List Token → Option (List Finding)
-faults n column tokens = found_faults tokens (derived n column tokens)

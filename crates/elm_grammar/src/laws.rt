@@ -2,7 +2,7 @@
 
 ghost use Rattle.std.specs.Prelude.{IsTrue};
 ghost use Rattle.elm_grammar.specs.Kinded.{is_kinded};
-ghost use Rattle.elm_grammar.specs.Examples.{NegativeArgument, Difference, TightDifference, NegatedFunction, MinusApart, MinusFunction, BracketedNegative, FlatChain, Accesses, BracketAccess, Updated, LastOperand, Branches, OtherColumn, InLet, ArrowType, NamedPattern, AliasName, PortModule, FourParts, ThreeParts, Comparisons, LoneInLet, WithDefinition, LoneAtEnd};
+ghost use Rattle.elm_grammar.specs.Examples.{NegativeArgument, Difference, TightDifference, NegatedFunction, MinusApart, MinusFunction, BracketedNegative, FlatChain, Accesses, BracketAccess, Updated, LastOperand, Branches, OtherColumn, InLet, ArrowType, NamedPattern, AliasName, PortModule};
 
 /// Each action fits its production.
 pub fn kinds_law()
@@ -30,14 +30,4 @@ pub fn examples()
     ensures named_pattern { NamedPattern }
     ensures alias_name { AliasName }
     ensures port_module { PortModule }
-{}
-
-/// The faults of small texts.
-pub fn fault_examples()
-    ensures four_parts { FourParts }
-    ensures three_parts { ThreeParts }
-    ensures comparisons { Comparisons }
-    ensures lone_in_let { LoneInLet }
-    ensures with_definition { WithDefinition }
-    ensures lone_at_end { LoneAtEnd }
 {}

@@ -1,11 +1,9 @@
 use Rattle.std.specs.Prelude.{refl}
-use Rattle.elm_tree.specs.Regroup.{row_of, clashing}
 use Rattle.elm_grammar.specs.Values.{takes, gives, act}
-use Rattle.elm_grammar.specs.Faults.{faults_of}
 use Rattle.elm_grammar.proofs.laws.examples.Goals as goal
 
 pub returns : goal.returns
-unfolding row_of clashing takes gives act faults_of
+unfolding takes gives act
 returns c = record {
   negative_argument = refl;
   difference = refl;

@@ -14,7 +14,7 @@ use Rattle.elm_grammar.specs.Table as table
 use Rattle.elm_grammar.specs.Table.{elm}
 use Rattle.elm_grammar.specs.Values.{Kind as ValueKind, One, Thing, Begun}
 use Rattle.elm_grammar.specs.Meaning.{Spells}
-use Rattle.elm_grammar.specs.Faults.{Finding, IsFirst, IsClean}
+use Rattle.elm_faults.specs.Standing.{Finding, IsFirst, IsClean}
 
 -- ---- all of the tokens
 
