@@ -40,7 +40,7 @@ Within k d = Before d.by k
 -- the fault stands in the tokens ts: those up to some place begin a text that has it, and decide it; or ts are a text
 -- that has it. Which text goes on does not matter: `WhicheverText`
 pub data Stands (tokens : List Token) (n column : ℕ) (ts : List machine.Token) : Finding → Type 0 where
-  early : {front others : List machine.Token} {d : Decided} → classed tokens ≡ front ++ others →
+  early : {front : List machine.Token} {d : Decided} (others : List machine.Token) → classed tokens ≡ front ++ others →
       (x : Text n column front) → Contains (faults_of tokens x.tree) d → Within (length front) d →
       Stands tokens n column ts (finding d)
   at_end : {x : Tree} {d : Decided} → Spells elm (Part n ∷ []) column x ts → Contains (faults_of tokens x) d →
