@@ -1,0 +1,4 @@
+pub mod Levels
+pub mod Grouping
+pub mod Turning
+pub mod Views

@@ -1,0 +1,6 @@
+pub mod Tree
+pub mod Words
+pub mod View
+pub mod Regroup
+pub mod Turns
+pub mod Examples

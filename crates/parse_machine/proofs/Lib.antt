@@ -1,0 +1,9 @@
+pub mod Stack
+pub mod Opening
+pub mod Selection
+pub mod Completion
+pub mod Reaching
+pub mod Keeping
+pub mod Running
+pub mod Planning
+pub mod Stopping

@@ -1,0 +1,5 @@
+pub mod Grammar
+pub mod Plan
+pub mod Rows
+pub mod Planned
+pub mod Stopped
