@@ -25,13 +25,23 @@ by_word g inside c set k w ss S h = go h.trees h.tokens h.reads
   where
     go : (xs : List Tree) (ts : List Token) → Reads g (frame ss c inside ∷ S) xs ts →
         Completed g (frame (Word set ∷ ss) c inside ∷ S)
-    go (x ∷ xs) ts d = record { trees = word (token_at inside c k) x ∷ xs; tokens = token_at inside c k ∷ ts; reads = a_word w (omega arith) d }
+    go (x ∷ xs) ts d = record {
+      trees = word (token_at inside c k) x ∷ xs;
+      tokens = token_at inside c k ∷ ts;
+      reads =
+          a_word w (omega arith) d;
+    }
     go [] ts d = absurd (let e = trees_of g (frame ss c inside ∷ S) [] ts d in omega arith)
 by_word g leading c set k w ss S h = go h.trees h.tokens h.reads
   where
     go : (xs : List Tree) (ts : List Token) → Reads g (frame ss c inside ∷ S) xs ts →
         Completed g (frame (Word set ∷ ss) c leading ∷ S)
-    go (x ∷ xs) ts d = record { trees = word (token_at leading c k) x ∷ xs; tokens = token_at leading c k ∷ ts; reads = a_word w refl d }
+    go (x ∷ xs) ts d = record {
+      trees = word (token_at leading c k) x ∷ xs;
+      tokens =
+          token_at leading c k ∷ ts;
+      reads = a_word w refl d;
+    }
     go [] ts d = absurd (let e = trees_of g (frame ss c inside ∷ S) [] ts d in omega arith)
 
 by_node : (g : List Production) (m l : Place) (c b n p : ℕ) (s : Symbol) (r ss : List Symbol) (S : List Frame) →
@@ -47,7 +57,9 @@ by_node g m l c b n p s r ss S k i h = go h.trees h.tokens h.reads
 
 -- one symbol, where what follows it is completed
 abbrev pub Completes : List Production → Plan → Symbol → Type 0
-Completes g P s = (m : Place) (c : ℕ) (ss : List Symbol) (S : List Frame) → Starts P m (s ∷ ss) → Completed g (frame ss c inside ∷ S) → Completed g (frame (s ∷ ss) c m ∷ S)
+Completes g P s =
+    (m : Place) (c : ℕ) (ss : List Symbol) (S : List Frame) → Starts P m (s ∷ ss) →
+    Completed g (frame ss c inside ∷ S) → Completed g (frame (s ∷ ss) c m ∷ S)
 
 abbrev pub AllComplete : List Production → Plan → List Symbol → Type 0
 AllComplete g P [] = Unit {0}
@@ -66,7 +78,8 @@ called : (g : List Production) (P : Plan) → IsPlanned g P → (s : Symbol) (n 
     Is g (P.short n) n r → AllComplete g P r →
     (m l : Place) (c b : ℕ) (ss : List Symbol) (S : List Frame) → Calls m c s n l b → Starts P l r →
     Completed g (frame ss c inside ∷ S) → Completed g (frame (s ∷ ss) c m ∷ S)
-called g P C s n r i a m l c b ss S k h d = by_node g m l c b n (P.short n) s r ss S k i (all_symbols g P r l b (frame ss c inside ∷ S) a h d)
+called g P C s n r i a m l c b ss S k h d =
+    by_node g m l c b n (P.short n) s r ss S k i (all_symbols g P r l b (frame ss c inside ∷ S) a h d)
 
 abbrev pub Asks : Symbol → ℕ → Type 0
 Asks (Word k) n = ⊥
@@ -91,14 +104,17 @@ by_short g P C (Part n) f h = go
 
     go : Completes g P (Part n)
     go inside c ss S st d = called g P C (Part n) n f.0 f.1 all inside inside c c ss S a_part tt d
-    go leading c ss S st d = called g P C (Part n) n f.0 f.1 all leading leading c c ss S a_part (C.plainly (P.short n) n f.0 f.1 st) d
+    go leading c ss S st d =
+        called g P C (Part n) n f.0 f.1 all leading leading c c ss S a_part (C.plainly (P.short n) n f.0 f.1 st) d
 by_short g P C (Line n) f h = go
   where
     all : AllComplete g P f.0.0
     all = h n f.0.0 f.0.1 f.0.2 refl
 
     go : Completes g P (Line n)
-    go inside c ss S st d = called g P C (Line n) n f.0.0 f.0.1 all inside leading c c ss S a_line (C.plainly (P.short n) n f.0.0 f.0.1 f.1) d
+    go inside c ss S st d =
+        called g P C (Line n) n f.0.0 f.0.1 all inside leading c c ss S a_line
+        (C.plainly (P.short n) n f.0.0 f.0.1 f.1) d
     go leading c ss S st d = absurd st
 by_short g P C (Block n) f h = go
   where
@@ -106,7 +122,8 @@ by_short g P C (Block n) f h = go
     all = h n f.0.0 f.0.1 f.0.2 refl
 
     go : Completes g P (Block n)
-    go inside c ss S st d = called g P C (Block n) n f.0.0 f.0.1 all inside inside c (suc c) ss S (a_block (omega arith)) tt d
+    go inside c ss S st d =
+        called g P C (Block n) n f.0.0 f.0.1 all inside inside c (suc c) ss S (a_block (omega arith)) tt d
     go leading c ss S st d = absurd st
 
 abbrev pub AllFit : List Production → Plan → List Symbol → Type 0
@@ -137,7 +154,9 @@ completes_below g P C zero (Part n) f l = absurd (omega arith)
 completes_below g P C zero (Line n) f l = absurd (omega arith)
 completes_below g P C zero (Block n) f l = absurd (omega arith)
 completes_below g P C (suc k) s f l =
-    by_short g P C s f (λ n r i a w. lower_all g P (P.height n) k (lower_asked P k s n l w) (completes_below g P C k) r (fit_all g P n r (C.orderly (P.short n) n r i)) a)
+    by_short g P C s f
+    (λ n r i a w. lower_all g P (P.height n) k (lower_asked P k s n l w) (completes_below g P C k) r
+    (fit_all g P n r (C.orderly (P.short n) n r i)) a)
 
 pub completes : (g : List Production) (P : Plan) → IsPlanned g P → (s : Symbol) → Fits g P s → Completes g P s
 completes g P C (Word j) f = completes_below g P C 0 (Word j) f tt
@@ -152,4 +171,5 @@ complete_sitting g P C c S (s ∷ ss) h = (completes g P C s h.0, complete_sitti
 
 pub completed : (g : List Production) (P : Plan) → IsPlanned g P → (S : List Frame) → Good g P S → Completed g S
 completed g P C [] h = record { trees = []; tokens = []; reads = finished }
-completed g P C (frame ss c m ∷ S) h = all_symbols g P ss m c S (complete_sitting g P C c S ss h.1) h.0 (completed g P C S h.2)
+completed g P C (frame ss c m ∷ S) h =
+    all_symbols g P ss m c S (complete_sitting g P C c S ss h.1) h.0 (completed g P C S h.2)

@@ -91,8 +91,12 @@ leaf_on g r b c l m S (x ∷ xs) us d =
     let a = apart d in
     let same : x ∷ xs ≡ a.x ∷ a.others = a.trees in
     let one : a.x ≡ x = cc in
-    let two : a.others ≡ xs = cc in
-    (subst (λ z. Reads g (frame r b l ∷ frame [] c m ∷ S) (z ∷ leaf ∷ xs) us) one (subst (λ z. Reads g (frame r b l ∷ frame [] c m ∷ S) (a.x ∷ leaf ∷ z) us) two (onto a.derives (closed a.reads))), refl)
+    let two : a.others ≡ xs = cc in (
+      subst (λ z. Reads g (frame r b l ∷ frame [] c m ∷ S) (z ∷ leaf ∷ xs) us) one
+          (subst (λ z. Reads g (frame r b l ∷ frame [] c m ∷ S) (a.x ∷ leaf ∷ z) us) two
+          (onto a.derives (closed a.reads))),
+      refl,
+    )
 
 leaf_off : (g : List Production) (r : List Symbol) (b c : ℕ) (l m : Place) (S : List Frame) (xs : List Tree)
     (us : List Token) → Reads g (frame r b l ∷ frame [] c m ∷ S) xs us →
@@ -106,7 +110,12 @@ leaf_off g r b c l m S xs us d =
 sits_tail : (g : List Production) (P : Plan) (b c : ℕ) (m : Place) (S : List Frame) (r : List Symbol) →
     Sits g P b (frame [] c m ∷ S) r → Sits g P b S r
 sits_tail g P b c m S [] h = tt
-sits_tail g P b c m S (s ∷ r) h = (h.0, (λ xs t ts d. h.1 (with_leaf xs) t ts (leaf_on g r b c inside m S xs (t ∷ ts) d).0), sits_tail g P b c m S r h.2)
+sits_tail g P b c m S (s ∷ r) h = (
+  h.0,
+  (λ xs t ts d. h.1 (with_leaf xs) t ts
+      (leaf_on g r b c inside m S xs (t ∷ ts) d).0),
+  sits_tail g P b c m S r h.2,
+)
 
 -- a frame in which nothing is left to be read may go, also from below the first
 pub keeps_tail : (g : List Production) (P : Plan) (K : List Frame) (front at : List Token) (r : List Symbol) (b c : ℕ)
@@ -152,8 +161,12 @@ pub keeps_word : (g : List Production) (P : Plan) (K : List Frame) (front ts : L
 keeps_word g P K front ts t c k m ss S out e s h at = record {
   grow = λ xs. h.grow (with_first (word t) xs);
   good = (tt, h.good.1.2, h.good.2);
-  sound = λ xs us d. subst (λ vs. Reads g K (h.grow (with_first (word t) xs) ∷ []) vs) (sym (append_assoc front (t ∷ []) us)) (h.sound (with_first (word t) xs) (t ∷ us) (word_on g m c k ss S t xs us e s d).0);
-  listed = λ xs us d. let w = word_on g m c k ss S t xs us e s d in h.listed (with_first (word t) xs) (t ∷ us) w.0 ∙ ap (λ z. out ++ z) w.1 ∙ sym (append_assoc out (Read t ∷ []) (steps_all xs));
+  sound = λ xs us d. subst (λ vs. Reads g K (h.grow (with_first (word t) xs) ∷ []) vs)
+      (sym (append_assoc front (t ∷ []) us))
+      (h.sound (with_first (word t) xs) (t ∷ us) (word_on g m c k ss S t xs us e s d).0);
+  listed = λ xs us d. let w =
+      word_on g m c k ss S t xs us e s d in h.listed (with_first (word t) xs) (t ∷ us) w.0 ∙ ap
+      (λ z. out ++ z) w.1 ∙ sym (append_assoc out (Read t ∷ []) (steps_all xs));
   exact = λ x us l d.
       let v = h.exact x (t ∷ us) (us, refl) (subst (λ vs. Reads g K (x ∷ []) vs) (append_assoc front (t ∷ []) us) d) in
       let f = word_is g t v.0 v.1 in
@@ -170,9 +183,12 @@ call_on : (g : List Production) (m l : Place) (c b n p : ℕ) (s : Symbol) (r ss
     Reads g (frame r b l ∷ frame ss c inside ∷ S) xs us →
     Reads g (frame (s ∷ ss) c m ∷ S) (with_two p xs) us × (steps_all (with_two p xs) ≡ Take p ∷ steps_all xs)
 unfolding with_two
-call_on g m l c b n p s r ss S (x ∷ y ∷ xs) us k i d = (a_node k i d, ap (λ z. Take p ∷ z) (append_assoc (steps_of x) (steps_of y) (steps_all xs)))
-call_on g m l c b n p s r ss S (x ∷ []) us k i d = absurd (let e = trees_of g (frame r b l ∷ frame ss c inside ∷ S) (x ∷ []) us d in omega arith)
-call_on g m l c b n p s r ss S [] us k i d = absurd (let e = trees_of g (frame r b l ∷ frame ss c inside ∷ S) [] us d in omega arith)
+call_on g m l c b n p s r ss S (x ∷ y ∷ xs) us k i d =
+    (a_node k i d, ap (λ z. Take p ∷ z) (append_assoc (steps_of x) (steps_of y) (steps_all xs)))
+call_on g m l c b n p s r ss S (x ∷ []) us k i d = absurd (let e =
+    trees_of g (frame r b l ∷ frame ss c inside ∷ S) (x ∷ []) us d in omega arith)
+call_on g m l c b n p s r ss S [] us k i d = absurd (let e =
+    trees_of g (frame r b l ∷ frame ss c inside ∷ S) [] us d in omega arith)
 
 -- what a derivation does at a symbol that is no word
 record Called (g : List Production) (m : Place) (c : ℕ) (s : Symbol) (ss : List Symbol) (S : List Frame)
@@ -193,7 +209,21 @@ record Called (g : List Production) (m : Place) (c : ℕ) (s : Symbol) (ss : Lis
 call_is : (g : List Production) {m : Place} {c : ℕ} (s : Symbol) {ss : List Symbol} {S : List Frame} (xs : List Tree)
     {us : List Token} → IsNoWord s → Reads g (frame (s ∷ ss) c m ∷ S) xs us → Called g m c s ss S xs us
 call_is g s _ w (a_node {l = l} {b = b} {n = n} {p = p} {r = r} {x = x} {y = y} {xs = xs} k i d) =
-    record { asked = n; taken = p; place = l; column = b; right = r; x = x; y = y; others = xs; calls = k; is = i; reads = d; trees = refl }
+    record {
+      asked = n;
+      taken = p;
+      place = l;
+      column = b;
+      right = r;
+      x = x;
+      y = y;
+      others = xs;
+      calls = k;
+      is =
+          i;
+      reads = d;
+      trees = refl;
+    }
 call_is g s _ w (a_word e st d) = absurd w
 
 -- the first token alone decides
@@ -218,7 +248,8 @@ called_so : (g : List Production) (P : Plan) → IsPlanned g P →
     (at us : List Token) (m : Place) (c : ℕ) (s : Symbol) (ss : List Symbol) (S : List Frame) (xs : List Tree) →
     Good g P (frame (s ∷ ss) c m ∷ S) → Like at us → (k : Called g m c s ss S xs us) →
     select P s m c at ≡ Some (choice k.taken k.place k.column)
-called_so g P C at us m c s ss S xs h l k = sym (select_like P s m c at us l) ∙ selects g P C k.taken k.right ss S k.x k.y k.others us h k.calls k.is k.reads
+called_so g P C at us m c s ss S xs h l k =
+    sym (select_like P s m c at us l) ∙ selects g P C k.taken k.right ss S k.x k.y k.others us h k.calls k.is k.reads
 
 -- all that stands there is what was selected
 call_only : (g : List Production) (P : Plan) → IsPlanned g P →
@@ -236,7 +267,8 @@ call_only g P C at us m l c b n p s r ss S xs w h like e i d =
       k.x ∷ k.y ∷ k.others,
       subst (λ z. Reads g (frame r b z ∷ frame ss c inside ∷ S) (k.x ∷ k.y ∷ k.others) us) (sym q.1)
           (subst (λ z. Reads g (frame r z k.place ∷ frame ss c inside ∷ S) (k.x ∷ k.y ∷ k.others) us) (sym q.2)
-          (subst (λ z. Reads g (frame z k.column k.place ∷ frame ss c inside ∷ S) (k.x ∷ k.y ∷ k.others) us) same.1 k.reads)),
+          (subst (λ z. Reads g (frame z k.column k.place ∷ frame ss c inside ∷ S)
+          (k.x ∷ k.y ∷ k.others) us) same.1 k.reads)),
       k.trees ∙ ap (λ z. node z k.x k.y ∷ k.others) (sym q.0),
     )
 
@@ -289,7 +321,8 @@ head_of g (a_node k i d) = elim k [ ]
 pub refuses_word : (g : List Production) (m : Place) (c k : ℕ) (ss : List Symbol) (S : List Frame) (at : List Token) →
     ((t : Token) (ts : List Token) → at ≡ t ∷ ts → Holds k t.class → Stands m c t → ⊥) →
     Refuses g (frame (Word k ∷ ss) c m ∷ S) at
-refuses_word g m c k ss S [] h = λ xs us like d. let u = head_of g d in let q : [] ≡ u.token ∷ u.more = sym like ∙ u.is in cc
+refuses_word g m c k ss S [] h = λ xs us like d. let u = head_of g d in let q : [] ≡ u.token ∷ u.more =
+    sym like ∙ u.is in cc
 refuses_word g m c k ss S (t ∷ ts) h = λ xs us like d.
     let u = head_of g d in
     let q : t ∷ like.0 ≡ u.token ∷ u.more = sym like.1 ∙ u.is in
@@ -323,7 +356,8 @@ longest_at g P C ss c ts front at S out place k r = record {
   no_further = λ t more q b.
       let us = t ∷ b.1 in
       let like : Like at us = subst (λ z. Like z us) (sym q) (b.1, refl) in
-      let d : Reads g (start ss c) (b.0 ∷ []) (front ++ us) = subst (λ z. Reads g (start ss c) (b.0 ∷ []) z) (append_assoc front (t ∷ []) b.1) (reads_of b.2) in
+      let d : Reads g (start ss c) (b.0 ∷ []) (front ++ us) =
+      subst (λ z. Reads g (start ss c) (b.0 ∷ []) z) (append_assoc front (t ∷ []) b.1) (reads_of b.2) in
       let e = k.exact b.0 us like d in
       r t more q e.0 us like e.1;
 }
@@ -339,7 +373,8 @@ read_whole g P ss c front out k = record {
   spells = spelled (subst (λ z. Reads g (start ss c) (k.grow [] ∷ []) z) (append-nil front) (k.sound [] [] finished));
   listed = k.listed [] [] finished ∙ append-nil out;
   only = λ other s.
-      let e = k.exact other [] refl (subst (λ z. Reads g (start ss c) (other ∷ []) z) (sym (append-nil front)) (reads_of s)) in
+      let e = k.exact other [] refl
+      (subst (λ z. Reads g (start ss c) (other ∷ []) z) (sym (append-nil front)) (reads_of s)) in
       e.2 ∙ ap k.grow (nothing_left g e.0 e.1);
 }
 

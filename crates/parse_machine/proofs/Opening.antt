@@ -74,15 +74,19 @@ call_opens g P C t p a_part f e = (p, e)
 call_opens g P C t p (a_line {c = c} {n = n}) f e = go (look leading c t) refl (seen leading c t)
   where
     go : (l : Look) → look leading c t ≡ l → Seen leading c t l → Opens P (Line n) (look inside c t)
-    go (beyond k) q (seen_beyond h) = (t.class, is_level c t h, p, subst (λ x. P.takes n x ≡ Some p) (is_leading c t h) e)
-    go outside q seen_outside = absurd (let w : P.takes n outside ≡ Some p = subst (λ x. P.takes n x ≡ Some p) q e in let v = C.nowhere n in cc)
+    go (beyond k) q (seen_beyond h) =
+        (t.class, is_level c t h, p, subst (λ x. P.takes n x ≡ Some p) (is_leading c t h) e)
+    go outside q seen_outside = absurd (let w : P.takes n outside ≡ Some p =
+        subst (λ x. P.takes n x ≡ Some p) q e in let v = C.nowhere n in cc)
     go (level k) q x = elim x [ ]
 call_opens g P C t p (a_block {c = c} {n = n} {b = b} h) f e = go (look inside b t) refl (seen inside b t)
   where
     go : (l : Look) → look inside b t ≡ l → Seen inside b t l → Opens P (Block n) (look inside c t)
-    go (beyond k) q (seen_beyond w) = absurd (let w : P.takes n (beyond t.class) ≡ Some p = subst (λ x. P.takes n x ≡ Some p) q e in let v = f.2 t.class in cc)
+    go (beyond k) q (seen_beyond w) = absurd (let w : P.takes n (beyond t.class) ≡ Some p =
+        subst (λ x. P.takes n x ≡ Some p) q e in let v = f.2 t.class in cc)
     go (level k) q (seen_level w) = (t.class, is_inside c t (omega arith), p, subst (λ x. P.takes n x ≡ Some p) q e)
-    go outside q seen_outside = absurd (let w : P.takes n outside ≡ Some p = subst (λ x. P.takes n x ≡ Some p) q e in let v = C.nowhere n in cc)
+    go outside q seen_outside = absurd (let w : P.takes n outside ≡ Some p =
+        subst (λ x. P.takes n x ≡ Some p) q e in let v = C.nowhere n in cc)
 
 pub call_full : (P : Plan) {m l : Place} {c b n : ℕ} {s : Symbol} → Calls m c s n l b → Full P s → P.empty n ≡ None
 call_full P a_part f = f
@@ -116,12 +120,16 @@ opens g P C f fits (a_node {n = n} {p = p} {r = s2 ∷ r} {ts = ts} k i h) =
 
 -- what the frames may begin with, after nonterminal n
 abbrev pub NextFollows : List Production → Plan → ℕ → List Frame → ℕ → Type 0
-NextFollows g P c S n = (xs : List Tree) (t : Token) (ts : List Token) → Reads g S xs (t ∷ ts) → Follows P n (look inside c t)
+NextFollows g P c S n =
+    (xs : List Tree) (t : Token) (ts : List Token) → Reads g S xs (t ∷ ts) → Follows P n (look inside c t)
 
 -- the symbols and what they are followed by are as they must be
 abbrev pub Sits : List Production → Plan → ℕ → List Frame → List Symbol → Type 0
 Sits g P c S [] = Unit {0}
-Sits g P c S (s ∷ ss) = Fits g P s × ((xs : List Tree) (t : Token) (ts : List Token) → Reads g (frame ss c inside ∷ S) xs (t ∷ ts) → Precedes P s (look inside c t)) × Sits g P c S ss
+Sits g P c S (s ∷ ss) =
+    Fits g P s ×
+    ((xs : List Tree) (t : Token) (ts : List Token) → Reads g (frame ss c inside ∷ S) xs (t ∷ ts) →
+    Precedes P s (look inside c t)) × Sits g P c S ss
 
 abbrev pub Good : List Production → Plan → List Frame → Type 0
 Good g P [] = Unit {0}
@@ -167,14 +175,17 @@ next_follows g P t a_line h = h
 next_follows g P t (a_block {c = c} {n = n} {b = b} w) h = go (look inside b t) (seen inside b t)
   where
     go : (l : Look) → Seen inside b t l → Follows P n l
-    go (beyond k) (seen_beyond v) = (let q : Precedes P (Block n) (beyond t.class) = subst (λ x. Precedes P (Block n) x) (is_inside c t (omega arith)) h in q).0
-    go (level k) (seen_level v) = (let q : Precedes P (Block n) (beyond t.class) = subst (λ x. Precedes P (Block n) x) (is_inside c t (omega arith)) h in q).1
+    go (beyond k) (seen_beyond v) = (let q : Precedes P (Block n) (beyond t.class) =
+        subst (λ x. Precedes P (Block n) x) (is_inside c t (omega arith)) h in q).0
+    go (level k) (seen_level v) = (let q : Precedes P (Block n) (beyond t.class) =
+        subst (λ x. Precedes P (Block n) x) (is_inside c t (omega arith)) h in q).1
     go outside seen_outside = tt
 
 sits : (g : List Production) (P : Plan) → IsPlanned g P → (n : ℕ) (ss : List Symbol) (c : ℕ) (S : List Frame) →
     Orderly g P n ss → NextFollows g P c S n → Sits g P c S ss
 sits g P C n [] c S o h = tt
-sits g P C n (s ∷ ss) c S o h = (o.0, (λ xs t ts d. o.1 (look inside c t) (after g P C n ss c S xs t ts o.2 h d)), sits g P C n ss c S o.2 h)
+sits g P C n (s ∷ ss) c S o h =
+    (o.0, (λ xs t ts d. o.1 (look inside c t) (after g P C n ss c S xs t ts o.2 h d)), sits g P C n ss c S o.2 h)
 
 starts : (g : List Production) (P : Plan) → IsPlanned g P → {m l : Place} {c b n : ℕ} {s : Symbol} →
     (p : ℕ) (r ss : List Symbol) →
@@ -188,5 +199,9 @@ starts g P C p r ss (a_block w) f i h = tt
 pub good_call : (g : List Production) (P : Plan) → IsPlanned g P → {m l : Place} {c b n : ℕ} {s : Symbol} →
     (p : ℕ) (r ss : List Symbol) (S : List Frame) →
     Calls m c s n l b → Is g p n r → Good g P (frame (s ∷ ss) c m ∷ S) → Good g P (frame r b l ∷ frame ss c inside ∷ S)
-good_call g P C {c = c} {b = b} {n = n} p r ss S k i h =
-    (starts g P C p r ss k h.1.0 i h.0, sits g P C n r b (frame ss c inside ∷ S) (C.orderly p n r i) (λ xs t ts d. next_follows g P t k (h.1.1 xs t ts d)), (tt, h.1.2, h.2))
+good_call g P C {c = c} {b = b} {n = n} p r ss S k i h = (
+  starts g P C p r ss k h.1.0 i h.0,
+  sits g P C n r b (frame ss c inside ∷ S) (C.orderly p n r i)
+      (λ xs t ts d. next_follows g P t k (h.1.1 xs t ts d)),
+  (tt, h.1.2, h.2),
+)

@@ -28,14 +28,20 @@ implied_at : (xs ys : List Bool) → implied xs ys ≡ true → (k : ℕ) → ge
 implied_at [] ys e k h = absurd cc
 implied_at (x ∷ xs) [] e zero h = absurd (let a = not_true x (and_true (not x) (implied xs []) e).0 in cc)
 implied_at (x ∷ xs) [] e (suc k) h = implied_at xs [] (and_true (not x) (implied xs []) e).1 k h
-implied_at (x ∷ xs) (y ∷ ys) e zero h = elim (or_true (not x) y (and_true (not x || y) (implied xs ys) e).0) [ inl a ↦ absurd (let b = not_true x a in cc) | inr b ↦ b ]
+implied_at (x ∷ xs) (y ∷ ys) e zero h =
+    elim (or_true (not x) y (and_true (not x || y) (implied xs ys) e).0) [
+      | inl a ↦ absurd
+          (let b = not_true x a in cc)
+      | inr b ↦ b
+    ]
 implied_at (x ∷ xs) (y ∷ ys) e (suc k) h = implied_at xs ys (and_true (not x || y) (implied xs ys) e).1 k h
 
 disjoint_at : (xs ys : List Bool) → disjoint xs ys ≡ true → (k : ℕ) → get_or xs k false ≡ true →
     get_or ys k false ≡ true → ⊥
 disjoint_at [] ys e k h j = cc
 disjoint_at (x ∷ xs) [] e k h j = cc
-disjoint_at (x ∷ xs) (y ∷ ys) e zero h j = let a = not_true (x && y) (and_true (not (x && y)) (disjoint xs ys) e).0 in let b : (x && y) ≡ true = rw (h, j) refl in cc
+disjoint_at (x ∷ xs) (y ∷ ys) e zero h j = let a =
+    not_true (x && y) (and_true (not (x && y)) (disjoint xs ys) e).0 in let b : (x && y) ≡ true = rw (h, j) refl in cc
 disjoint_at (x ∷ xs) (y ∷ ys) e (suc k) h j = disjoint_at xs ys (and_true (not (x && y)) (disjoint xs ys) e).1 k h j
 
 named_not_zero : (x p : ℕ) → number x ≡ Some p → not (nat_eq x 0) ≡ true
@@ -117,8 +123,10 @@ Has A (level k) = get_or A.equal k false ≡ true
 Has A outside = Unit {0}
 
 subset_at : (A B : Looks) → subset A B ≡ true → (l : Look) → Has A l → Has B l
-subset_at A B e (beyond k) h = implied_at A.right B.right (and_true (implied A.right B.right) (implied A.equal B.equal) e).0 k h
-subset_at A B e (level k) h = implied_at A.equal B.equal (and_true (implied A.right B.right) (implied A.equal B.equal) e).1 k h
+subset_at A B e (beyond k) h =
+    implied_at A.right B.right (and_true (implied A.right B.right) (implied A.equal B.equal) e).0 k h
+subset_at A B e (level k) h =
+    implied_at A.equal B.equal (and_true (implied A.right B.right) (implied A.equal B.equal) e).1 k h
 subset_at A B e outside h = tt
 
 beyond_is : (o : Option Row) (k : ℕ) → takes_row o (beyond k) ≡ cell (cells o) k
@@ -139,11 +147,17 @@ empty_is None = refl
 
 opens_has : (rows : List Row) (s : Symbol) (l : Look) → Opens (plan_of rows) s l → Has (openers rows s) l
 opens_has rows (Word set) l h = subst (λ z. Has (openers rows (Word set)) z) (sym h.1) (bits_at 64 set h.0 h.2.0 h.2.1)
-opens_has rows (Part n) (beyond k) h = marks_at (cells (slice_get rows n)) k h.0 (sym (beyond_is (slice_get rows n) k) ∙ h.1)
-opens_has rows (Part n) (level k) h = marks_at (level_cells (slice_get rows n)) k h.0 (sym (level_is (slice_get rows n) k) ∙ h.1)
+opens_has rows (Part n) (beyond k) h =
+    marks_at (cells (slice_get rows n)) k h.0 (sym (beyond_is (slice_get rows n) k) ∙ h.1)
+opens_has rows (Part n) (level k) h =
+    marks_at (level_cells (slice_get rows n)) k h.0 (sym (level_is (slice_get rows n) k) ∙ h.1)
 opens_has rows (Part n) outside h = tt
-opens_has rows (Line n) l h = subst (λ z. Has (openers rows (Line n)) z) (sym h.1) (marks_at (cells (slice_get rows n)) h.0 h.2 (sym (beyond_is (slice_get rows n) h.0) ∙ h.3))
-opens_has rows (Block n) l h = subst (λ z. Has (openers rows (Block n)) z) (sym h.1) (marks_at (level_cells (slice_get rows n)) h.0 h.2 (sym (level_is (slice_get rows n) h.0) ∙ h.3))
+opens_has rows (Line n) l h =
+    subst (λ z. Has (openers rows (Line n)) z) (sym h.1)
+    (marks_at (cells (slice_get rows n)) h.0 h.2 (sym (beyond_is (slice_get rows n) h.0) ∙ h.3))
+opens_has rows (Block n) l h =
+    subst (λ z. Has (openers rows (Block n)) z) (sym h.1)
+    (marks_at (level_cells (slice_get rows n)) h.0 h.2 (sym (level_is (slice_get rows n) h.0) ∙ h.3))
 
 opens_somewhere : (rows : List Row) (s : Symbol) → Opens (plan_of rows) s outside → ⊥
 opens_somewhere rows (Word set) h = let e : outside ≡ beyond h.0 = h.1 in cc
@@ -156,17 +170,23 @@ has_opens : (rows : List Row) (s : Symbol) (l : Look) → (l ≡ outside → ⊥
 has_opens rows s outside other h = absurd (other refl)
 has_opens rows (Word set) (beyond k) other h = (k, refl, at_bits 64 set k h)
 has_opens rows (Word set) (level k) other h = absurd (let e : false ≡ true = h in cc)
-has_opens rows (Part n) (beyond k) other h = let m = marked (cells (slice_get rows n)) k h in (m.0, beyond_is (slice_get rows n) k ∙ m.1)
-has_opens rows (Part n) (level k) other h = let m = marked (level_cells (slice_get rows n)) k h in (m.0, level_is (slice_get rows n) k ∙ m.1)
+has_opens rows (Part n) (beyond k) other h = let m =
+    marked (cells (slice_get rows n)) k h in (m.0, beyond_is (slice_get rows n) k ∙ m.1)
+has_opens rows (Part n) (level k) other h = let m =
+    marked (level_cells (slice_get rows n)) k h in (m.0, level_is (slice_get rows n) k ∙ m.1)
 has_opens rows (Line n) (beyond k) other h = absurd (let e : false ≡ true = h in cc)
-has_opens rows (Line n) (level k) other h = let m = marked (cells (slice_get rows n)) k h in (k, refl, m.0, beyond_is (slice_get rows n) k ∙ m.1)
-has_opens rows (Block n) (beyond k) other h = let m = marked (level_cells (slice_get rows n)) k h in (k, refl, m.0, level_is (slice_get rows n) k ∙ m.1)
+has_opens rows (Line n) (level k) other h = let m =
+    marked (cells (slice_get rows n)) k h in (k, refl, m.0, beyond_is (slice_get rows n) k ∙ m.1)
+has_opens rows (Block n) (beyond k) other h = let m =
+    marked (level_cells (slice_get rows n)) k h in (k, refl, m.0, level_is (slice_get rows n) k ∙ m.1)
 has_opens rows (Block n) (level k) other h = absurd (let e : false ≡ true = h in cc)
 
 takes_takers : (rows : List Row) (p n : ℕ) (l : Look) → takes_row (slice_get rows n) l ≡ Some p →
     Has (takers rows (suc p) n) l
-takes_takers rows p n (beyond k) e = equals_from p (cells (slice_get rows n)) k (sym (beyond_is (slice_get rows n) k) ∙ e)
-takes_takers rows p n (level k) e = equals_from p (level_cells (slice_get rows n)) k (sym (level_is (slice_get rows n) k) ∙ e)
+takes_takers rows p n (beyond k) e =
+    equals_from p (cells (slice_get rows n)) k (sym (beyond_is (slice_get rows n) k) ∙ e)
+takes_takers rows p n (level k) e =
+    equals_from p (level_cells (slice_get rows n)) k (sym (level_is (slice_get rows n) k) ∙ e)
 takes_takers rows p n outside e = tt
 
 takes_seen : (rows : List Row) (p n : ℕ) (l : Look) → takes_row (slice_get rows n) l ≡ Some p → l ≡ outside → ⊥
@@ -210,8 +230,11 @@ precedes rows (Part n) A l e h = has_follows rows n l (subset_at A (followers (s
 precedes rows (Line n) A l e h = has_follows rows n l (subset_at A (followers (slice_get rows n)) e l h)
 precedes rows (Block n) A (beyond k) e h =
     let F = followers (slice_get rows n) in
-    let p = and_true (implied A.right F.right) (implied A.right F.equal) e in
-    (has_follows rows n (beyond k) (implied_at A.right F.right p.0 k h), has_follows rows n (level k) (implied_at A.right F.equal p.1 k h))
+    let p = and_true (implied A.right F.right) (implied A.right F.equal) e in (
+      has_follows rows n (beyond k) (implied_at A.right F.right p.0 k h),
+      has_follows rows n (level k)
+          (implied_at A.right F.equal p.1 k h),
+    )
 precedes rows (Block n) A (level k) e h = tt
 precedes rows (Block n) A outside e h = tt
 
@@ -223,7 +246,8 @@ vanishes_so rows (Part n) v e = go (nat_eq (empty_cell (slice_get rows n)) 0) re
   where
     go : (b : Bool) → nat_eq (empty_cell (slice_get rows n)) 0 ≡ b → not (not b) ≡ true → ⊥
     go false q r = cc
-    go true q r = let w : number (empty_cell (slice_get rows n)) ≡ None = rw q refl in let u : None ≡ Some v.0 = sym w ∙ (sym (empty_is (slice_get rows n)) ∙ v.1) in cc
+    go true q r = let w : number (empty_cell (slice_get rows n)) ≡ None = rw q refl in let u : None ≡ Some v.0 =
+        sym w ∙ (sym (empty_is (slice_get rows n)) ∙ v.1) in cc
 
 ahead_is : (rows : List Row) (s : Symbol) (n : ℕ) (ss : List Symbol) (l : Look) → ahead rows s n ss ≡ true →
     After (plan_of rows) n ss l → Precedes (plan_of rows) s l
@@ -232,11 +256,16 @@ ahead_is rows s n (t ∷ ts) l e h =
     let p = and_true (allows rows s (openers rows t)) (not (vanishing rows t) || ahead rows s n ts) e in
     elim h [
       | inl o ↦ precedes rows s (openers rows t) l p.0 (opens_has rows t l o)
-      | inr w ↦ elim (or_true (not (vanishing rows t)) (ahead rows s n ts) p.1) [ inl q ↦ absurd (vanishes_so rows t w.0 q) | inr q ↦ ahead_is rows s n ts l q w.1 ]
+      | inr w ↦ elim (or_true (not (vanishing rows t)) (ahead rows s n ts) p.1) [
+        | inl q ↦ absurd
+            (vanishes_so rows t w.0 q)
+        | inr q ↦ ahead_is rows s n ts l q w.1
+      ]
     ]
 
 no_cell_is : (rows : List Row) (n : ℕ) → no_cell (slice_get rows n) ≡ true → empty_row (slice_get rows n) ≡ None
-no_cell_is rows n e = empty_is (slice_get rows n) ∙ (let w : number (empty_cell (slice_get rows n)) ≡ None = rw e refl in w)
+no_cell_is rows n e = empty_is (slice_get rows n) ∙ (let w : number (empty_cell (slice_get rows n)) ≡ None =
+    rw e refl in w)
 
 full_is : (rows : List Row) (s : Symbol) → full rows s ≡ true → Full (plan_of rows) s
 full_is rows (Word k) e = tt
@@ -265,19 +294,26 @@ starts_is rows (Block n ∷ ss) e = absurd cc
 
 ranked_is : (rows : List Row) (h : ℕ) (s : Symbol) → ranked rows h s ≡ true → Ranked (plan_of rows) h s
 ranked_is rows h (Word k) e = tt
-ranked_is rows h (Part n) e = let a = lt_true (rank_cell (slice_get rows n)) h e in let b = rank_is (slice_get rows n) in omega arith
-ranked_is rows h (Line n) e = let a = lt_true (rank_cell (slice_get rows n)) h e in let b = rank_is (slice_get rows n) in omega arith
-ranked_is rows h (Block n) e = let a = lt_true (rank_cell (slice_get rows n)) h e in let b = rank_is (slice_get rows n) in omega arith
+ranked_is rows h (Part n) e = let a = lt_true (rank_cell (slice_get rows n)) h e in let b =
+    rank_is (slice_get rows n) in omega arith
+ranked_is rows h (Line n) e = let a = lt_true (rank_cell (slice_get rows n)) h e in let b =
+    rank_is (slice_get rows n) in omega arith
+ranked_is rows h (Block n) e = let a = lt_true (rank_cell (slice_get rows n)) h e in let b =
+    rank_is (slice_get rows n) in omega arith
 
 lower_is : (rows : List Row) (h : ℕ) (s : Symbol) → lower rows h s ≡ true → Lower (plan_of rows) h s
 lower_is rows h (Word k) e = tt
-lower_is rows h (Part n) e = let a = lt_true (height_cell (slice_get rows n)) h e in let b = height_is (slice_get rows n) in omega arith
-lower_is rows h (Line n) e = let a = lt_true (height_cell (slice_get rows n)) h e in let b = height_is (slice_get rows n) in omega arith
-lower_is rows h (Block n) e = let a = lt_true (height_cell (slice_get rows n)) h e in let b = height_is (slice_get rows n) in omega arith
+lower_is rows h (Part n) e = let a = lt_true (height_cell (slice_get rows n)) h e in let b =
+    height_is (slice_get rows n) in omega arith
+lower_is rows h (Line n) e = let a = lt_true (height_cell (slice_get rows n)) h e in let b =
+    height_is (slice_get rows n) in omega arith
+lower_is rows h (Block n) e = let a = lt_true (height_cell (slice_get rows n)) h e in let b =
+    height_is (slice_get rows n) in omega arith
 
 all_lower_is : (rows : List Row) (h : ℕ) (ss : List Symbol) → all_lower rows h ss ≡ true → AllLower (plan_of rows) h ss
 all_lower_is rows h [] e = tt
-all_lower_is rows h (s ∷ ss) e = let p = and_true (lower rows h s) (all_lower rows h ss) e in (lower_is rows h s p.0, all_lower_is rows h ss p.1)
+all_lower_is rows h (s ∷ ss) e = let p =
+    and_true (lower rows h s) (all_lower rows h ss) e in (lower_is rows h s p.0, all_lower_is rows h ss p.1)
 
 -- ---- each production, and each row
 
@@ -335,10 +371,12 @@ none_of g n p e = go (production g p) refl e
 named_at : (g : List Production) (n : ℕ) (xs : List ℕ) (k p : ℕ) → all_named g n xs ≡ true → cell xs k ≡ Some p →
     is_some_of n (production g p) ≡ true
 named_at g n [] k p e q = absurd cc
-named_at g n (x ∷ xs) (suc k) p e q = named_at g n xs k p (and_true (nat_eq x 0 || is_some_of n (production g (x - 1))) (all_named g n xs) e).1 q
+named_at g n (x ∷ xs) (suc k) p e q =
+    named_at g n xs k p (and_true (nat_eq x 0 || is_some_of n (production g (x - 1))) (all_named g n xs) e).1 q
 named_at g n (x ∷ xs) zero p e q =
     let w = named_so x p q in
-    elim (or_true (nat_eq x 0) (is_some_of n (production g (x - 1))) (and_true (nat_eq x 0 || is_some_of n (production g (x - 1))) (all_named g n xs) e).0) [
+    elim (or_true (nat_eq x 0) (is_some_of n (production g (x - 1)))
+    (and_true (nat_eq x 0 || is_some_of n (production g (x - 1))) (all_named g n xs) e).0) [
       | inl a ↦ absurd (let c = w.0 in cc)
       | inr b ↦ subst (λ z. is_some_of n (production g z) ≡ true) w.1 b
     ]
@@ -391,14 +429,23 @@ empty_says g rows e n p h = go (slice_get rows n) refl h
     go (Some r) q h =
         (let w = named_so r.empty p h in
         let says = row_says g rows e n r q in
-        let rest : (is_none_of n (production g (r.empty - 1)) && disjoint (bits 64 r.follows) (marks r.beyond) && disjoint (bits 64 r.follows_level) (marks r.level)) ≡ true =
+        let rest :
+        (is_none_of n (production g (r.empty - 1)) && disjoint (bits 64 r.follows) (marks r.beyond)
+        && disjoint (bits 64 r.follows_level) (marks r.level)) ≡ true =
         elim (or_true (nat_eq r.empty 0) _ says.empties) [ inl a ↦ absurd (let c = w.0 in cc) | inr b ↦ b ] in
-        let a = and_true (is_none_of n (production g (r.empty - 1)) && disjoint (bits 64 r.follows) (marks r.beyond)) _ rest in
-        let b = and_true (is_none_of n (production g (r.empty - 1))) (disjoint (bits 64 r.follows) (marks r.beyond)) a.0 in
+        let a = and_true
+        (is_none_of n (production g (r.empty - 1)) && disjoint (bits 64 r.follows) (marks r.beyond)) _ rest in
+        let b = and_true (is_none_of n (production g (r.empty - 1)))
+        (disjoint (bits 64 r.follows) (marks r.beyond)) a.0 in
         record {
           empty_at = none_of g n p (subst (λ z. is_none_of n (production g z) ≡ true) w.1 b.0);
-          beyond_apart = λ k f. ap (λ z. takes_row z (beyond k)) q ∙ not_marked r.beyond k (disjoint_at (bits 64 r.follows) (marks r.beyond) b.1 k (sym (ap (λ z. follows_row z (beyond k)) q) ∙ f));
-          level_apart = λ k f. ap (λ z. takes_row z (level k)) q ∙ not_marked r.level k (disjoint_at (bits 64 r.follows_level) (marks r.level) a.1 k (sym (ap (λ z. follows_row z (level k)) q) ∙ f));
+          beyond_apart =
+              λ k f. ap (λ z. takes_row z (beyond k)) q ∙ not_marked r.beyond k
+              (disjoint_at (bits 64 r.follows) (marks r.beyond) b.1 k (sym (ap (λ z. follows_row z (beyond k)) q) ∙ f));
+          level_apart =
+              λ k f. ap (λ z. takes_row z (level k)) q ∙ not_marked r.level k
+              (disjoint_at (bits 64 r.follows_level) (marks r.level) a.1 k
+              (sym (ap (λ z. follows_row z (level k)) q) ∙ f));
         })
 
 ends_is : (g : List Production) (rows : List Row) → rows_planned g rows 0 rows ≡ true → (n : ℕ) →
@@ -413,8 +460,12 @@ ends_is g rows e n h =
     go r q (Some (m ⟶ t)) f s =
         (let p = and_true (nat_eq m n) (all_lower rows r.height t) s in
         let i : Is g r.short n t = f ∙ ap (λ z. Some (z ⟶ t)) (eq_true m n p.0) in
-        let low = all_lower_is rows r.height t p.1 in
-        (t, subst (λ z. Is g (short_row z) n t) (sym q) i, subst (λ z. AllLower (plan_of rows) (height_row z) t) (sym q) low))
+        let low = all_lower_is rows r.height t p.1 in (
+          t,
+          subst (λ z. Is g (short_row z) n t) (sym q) i,
+          subst (λ z. AllLower (plan_of rows) (height_row z) t)
+              (sym q) low,
+        ))
 
 fits_is : (g : List Production) (rows : List Row) → rows_planned g rows 0 rows ≡ true → (s : Symbol) →
     fits rows s ≡ true → Fits g (plan_of rows) s
@@ -425,11 +476,13 @@ fits_is g rows e (Line n) h =
     let b = and_true (nat_lt n (length rows)) (is_plain (slice_get rows n)) a.0 in
     (ends_is g rows e n b.0, plain_is (slice_get rows n) ∙ b.1, no_cell_is rows n a.1)
 fits_is g rows e (Block n) h =
-    let a = and_true (nat_lt n (length rows) && no_cell (slice_get rows n)) (implied (marks (cells (slice_get rows n))) []) h in
+    let a = and_true (nat_lt n (length rows) && no_cell (slice_get rows n))
+    (implied (marks (cells (slice_get rows n))) []) h in
     let b = and_true (nat_lt n (length rows)) (no_cell (slice_get rows n)) a.0 in (
       ends_is g rows e n b.0,
       no_cell_is rows n b.1,
-      λ k. beyond_is (slice_get rows n) k ∙ not_marked (cells (slice_get rows n)) k (λ q. let w : false ≡ true = implied_at (marks (cells (slice_get rows n))) [] a.1 k q in cc),
+      λ k. beyond_is (slice_get rows n) k ∙ not_marked (cells (slice_get rows n)) k (λ q. let w : false ≡ true =
+          implied_at (marks (cells (slice_get rows n))) [] a.1 k q in cc),
     )
 
 orderly_is : (g : List Production) (rows : List Row) → rows_planned g rows 0 rows ≡ true →
@@ -484,25 +537,37 @@ planned-is g rows e =
     record {
       opening = λ p n s ss l i o.
           let h = head_says rows p n s ss (rule_says g rows a.0 p n (s ∷ ss) i).head_is in
-          takers_take rows p n s l (subset_at (openers rows s) (takers rows (suc p) n) h.taken_by l (opens_has rows s l o)) o;
+          takers_take rows p n s l
+          (subset_at (openers rows s) (takers rows (suc p) n) h.taken_by l (opens_has rows s l o)) o;
       opened = λ p n s ss l i t.
           let h = head_says rows p n s ss (rule_says g rows a.0 p n (s ∷ ss) i).head_is in
-          has_opens rows s l (takes_seen rows p n l t) (subset_at (takers rows (suc p) n) (openers rows s) h.opened_by l (takes_takers rows p n l t));
-      vanishing = λ p n i. empty_is (slice_get rows n) ∙ ap number (eq_true (empty_cell (slice_get rows n)) (suc p) (rule_says g rows a.0 p n [] i).head_is) ∙ number_suc p;
-      firm = λ p n s ss i. full_is rows s (head_says rows p n s ss (rule_says g rows a.0 p n (s ∷ ss) i).head_is).fullness;
+          has_opens rows s l (takes_seen rows p n l t)
+          (subset_at (takers rows (suc p) n) (openers rows s) h.opened_by l (takes_takers rows p n l t));
+      vanishing =
+          λ p n i. empty_is (slice_get rows n) ∙ ap number
+          (eq_true (empty_cell (slice_get rows n)) (suc p) (rule_says g rows a.0 p n [] i).head_is) ∙ number_suc p;
+      firm = λ p n s ss i. full_is rows s
+          (head_says rows p n s ss (rule_says g rows a.0 p n (s ∷ ss) i).head_is).fullness;
       taken = λ n p l h. some_of g n p (taken_is g rows a.1 n p l h);
       vanished = λ n p h. (empty_says g rows a.1 n p h).empty_at;
       nowhere = λ n. outside_is (slice_get rows n);
       apart = λ n p l h f. apart_is g rows a.1 n p l h f;
-      plainly = λ p n r i h. elim (or_true (not (is_plain (slice_get rows n))) (starts rows r) (rule_says g rows a.0 p n r i).plain_starts) [
-        | inl q ↦ absurd (let w = not_true (is_plain (slice_get rows n)) q in let v = plain_is (slice_get rows n) in let u : true ≡ false = sym h ∙ (v ∙ w) in cc)
-        | inr q ↦ starts_is rows r q
-      ];
+      plainly =
+          λ p n r i h. elim
+          (or_true (not (is_plain (slice_get rows n))) (starts rows r) (rule_says g rows a.0 p n r i).plain_starts) [
+            | inl q ↦ absurd (let w = not_true (is_plain (slice_get rows n)) q in let v =
+                plain_is (slice_get rows n) in let u : true ≡ false = sym h ∙ (v ∙ w) in cc)
+            | inr q ↦ starts_is rows r q
+          ];
       orderly = λ p n r i. orderly_is g rows a.1 n r (rule_says g rows a.0 p n r i).order;
-      falling = λ p n s ss i. subst (λ z. Ranked (plan_of rows) z s) (sym (rank_is (slice_get rows n))) (ranked_is rows (rank_cell (slice_get rows n)) s (head_says rows p n s ss (rule_says g rows a.0 p n (s ∷ ss) i).head_is).rank_falls);
+      falling =
+          λ p n s ss i. subst (λ z. Ranked (plan_of rows) z s) (sym (rank_is (slice_get rows n)))
+          (ranked_is rows (rank_cell (slice_get rows n)) s
+          (head_says rows p n s ss (rule_says g rows a.0 p n (s ∷ ss) i).head_is).rank_falls);
     }
 
 -- a nonterminal that has a row has derivations
 pub start_ends : (g : List Production) (rows : List Row) → planned g rows ≡ true → (n : ℕ) → n < length rows →
     Ends g (plan_of rows) n
-start_ends g rows e n h = ends_is g rows (and_true (rules_planned rows 0 g) (rows_planned g rows 0 rows) e).1 n (true_lt n (length rows) h)
+start_ends g rows e n h =
+    ends_is g rows (and_true (rules_planned rows 0 g) (rows_planned g rows 0 rows) e).1 n (true_lt n (length rows) h)

@@ -32,12 +32,15 @@ by_node g m l c b n p s r ss S t k i d = go d.trees d.more d.reads
     go : (xs : List Tree) (ts : List Token) → Reads g (frame r b l ∷ frame ss c inside ∷ S) xs (t ∷ ts) →
         Begun g (frame (s ∷ ss) c m ∷ S) t
     go (x ∷ y ∷ xs) ts h = record { trees = node p x y ∷ xs; more = ts; reads = a_node k i h }
-    go (x ∷ []) ts h = absurd (let e = trees_of g (frame r b l ∷ frame ss c inside ∷ S) (x ∷ []) (t ∷ ts) h in omega arith)
+    go (x ∷ []) ts h = absurd (let e =
+        trees_of g (frame r b l ∷ frame ss c inside ∷ S) (x ∷ []) (t ∷ ts) h in omega arith)
     go [] ts h = absurd (let e = trees_of g (frame r b l ∷ frame ss c inside ∷ S) [] (t ∷ ts) h in omega arith)
 
 -- one symbol that opens with the token
 abbrev pub Reaches : List Production → Plan → Symbol → Type 0
-Reaches g P s = (m : Place) (c : ℕ) (ss : List Symbol) (S : List Frame) (t : Token) → Good g P (frame (s ∷ ss) c m ∷ S) → Opens P s (look m c t) → Begun g (frame (s ∷ ss) c m ∷ S) t
+Reaches g P s =
+    (m : Place) (c : ℕ) (ss : List Symbol) (S : List Frame) (t : Token) → Good g P (frame (s ∷ ss) c m ∷ S) →
+    Opens P s (look m c t) → Begun g (frame (s ∷ ss) c m ∷ S) t
 
 seen_word : (P : Plan) (m : Place) (c : ℕ) (t : Token) (set : ℕ) (l : Look) → Seen m c t l → Opens P (Word set) l →
     Holds set t.class × Stands m c t
@@ -62,7 +65,9 @@ call_reaches : (g : List Production) (P : Plan) → IsPlanned g P → (k : ℕ) 
 call_reaches g P C k f {m = m} {l = l} {c = c} {b = b} {n = n} {s = s} p ss S t call low h e =
     let x = C.taken n p (look l b t) e in
     let o = C.opened p n x.0 x.1 (look l b t) x.2 e in
-    by_node g m l c b n p s (x.0 ∷ x.1) ss S t call x.2 (f x.0 (raise x.0 (C.falling p n x.0 x.1 x.2)) l b x.1 (frame ss c inside ∷ S) t (good_call g P C p (x.0 ∷ x.1) ss S call x.2 h) o)
+    by_node g m l c b n p s (x.0 ∷ x.1) ss S t call x.2
+    (f x.0 (raise x.0 (C.falling p n x.0 x.1 x.2)) l b x.1 (frame ss c inside ∷ S) t
+    (good_call g P C p (x.0 ∷ x.1) ss S call x.2 h) o)
   where
     raise : (s2 : Symbol) → Ranked P (P.rank n) s2 → Ranked P k s2
     raise (Word j) r = tt

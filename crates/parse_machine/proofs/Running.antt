@@ -51,8 +51,8 @@ pub record Known (g : List Production) (ss : List Symbol) (c : ℕ) (front : Lis
   pub common : IsCommon g ss c front known
   pub idle : tokens_of others ≡ []
 
--- after front, the stack is to read what begins as at does, and nothing if nothing is left, unless the next token can be
--- read
+-- after front, the stack is to read what begins as at does, and nothing if nothing is left, unless the next token can
+-- be read
 pub record State (g : List Production) (P : Plan) (ss : List Symbol) (c : ℕ) (ts front at : List Token)
     (S : List Frame) (steps : List Step) : Type 0 where
   pub place : ts ≡ front ++ at
@@ -145,7 +145,8 @@ measure_call g P C {n = n} p [] ss S f (a_block w) i = absurd (let e = C.vanishi
 measure_call g P C {n = n} {s = s} p (s2 ∷ r) ss S f k i =
     let e = full_stays P s2 (C.firm p n s2 r i) in
     let q = rank_asked P k in
-    rw e (more_than (may_vanish P s) _ (1 + rank_of P s) (1 + rank_of P s2) (let h = ranked P (P.rank n) s2 (C.falling p n s2 r i) in omega arith) (omega arith))
+    rw e (more_than (may_vanish P s) _ (1 + rank_of P s) (1 + rank_of P s2) (let h =
+    ranked P (P.rank n) s2 (C.falling p n s2 r i) in omega arith) (omega arith))
 
 measure_tail : (P : Plan) (ss : List Symbol) (b c : ℕ) (l m : Place) (S : List Frame) →
     measure P (frame ss b l ∷ S) ≤ measure P (frame ss b l ∷ frame [] c m ∷ S)
@@ -182,15 +183,21 @@ tower_aside : (f : declared.Frame) (below : List declared.Frame) →
 tower_aside f below = go f.rest.now refl
   where
     go : (r : List Symbol) → f.rest.now ≡ r →
-        tower (cond (nat_eq (length f.rest.now) 0) below (below ++ f ∷ [])) [] ≡ aside (frame f.rest.now f.column (place f.leading)) (tower below [])
+        tower (cond (nat_eq (length f.rest.now) 0) below (below ++ f ∷ [])) []
+        ≡ aside (frame f.rest.now f.column (place f.leading)) (tower below [])
     go [] q =
         (let w : nat_eq (length f.rest.now) 0 ≡ true = true_eq (length f.rest.now) 0 (ap length q) in
-        ap (λ z. tower (cond z below (below ++ f ∷ [])) []) w ∙ ap (λ z. aside (frame z f.column (place f.leading)) (tower below [])) (sym q))
+        ap (λ z. tower (cond z below (below ++ f ∷ [])) []) w ∙ ap
+        (λ z. aside (frame z f.column (place f.leading)) (tower below [])) (sym q))
     go (s ∷ ss) q =
         (let e : length f.rest.now ≡ suc (length ss) = ap length q in
         let w : nat_eq (length f.rest.now) 0 ≡ false = not_eq (length f.rest.now) 0 (λ z. omega arith) in
-        let v : frame_of f ≡ frame (s ∷ ss) f.column (place f.leading) = ap (λ z. frame z f.column (place f.leading)) q in
-        ap (λ z. tower (cond z below (below ++ f ∷ [])) []) w ∙ (tower_more below f [] ∙ (ap (λ z. z ∷ tower below []) v ∙ ap (λ z. aside (frame z f.column (place f.leading)) (tower below [])) (sym q))))
+        let v : frame_of f ≡ frame (s ∷ ss) f.column (place f.leading) =
+        ap (λ z. frame z f.column (place f.leading)) q in
+        ap (λ z. tower (cond z below (below ++ f ∷ [])) []) w ∙
+        (tower_more below f [] ∙
+        (ap (λ z. z ∷ tower below []) v ∙ ap (λ z. aside (frame z f.column (place f.leading)) (tower below []))
+        (sym q))))
 
 keeps_aside : (g : List Production) (P : Plan) (K : List Frame) (front at : List Token) (r ss : List Symbol) (b c : ℕ)
     (l m : Place) (S : List Frame) (out : List Step) →
@@ -239,7 +246,9 @@ known_take g ss c front steps sure p k = record {
 tokens_known : (g : List Production) (ss : List Symbol) (c : ℕ) (front : List Token) (steps : List Step) (sure : ℕ) →
     Known g ss c front steps sure → tokens_of steps ≡ front
 tokens_known g ss c front steps sure k =
-    ap tokens_of k.split ∙ (tokens_append k.known k.others ∙ (ap (λ z. tokens_of k.known ++ z) k.idle ∙ (append-nil (tokens_of k.known) ∙ k.common.tokens)))
+    ap tokens_of k.split ∙
+    (tokens_append k.known k.others ∙
+    (ap (λ z. tokens_of k.known ++ z) k.idle ∙ (append-nil (tokens_of k.known) ∙ k.common.tokens)))
 
 -- all steps are known where each derivation that goes on after front begins with them
 known_read : (g : List Production) (P : Plan) (ss : List Symbol) (c : ℕ) (front : List Token) (t : Token)
@@ -254,7 +263,8 @@ known_read g P ss c front t S steps sure e k n = record {
   common =
       record {
         tokens = tokens_append steps (Read t ∷ []) ∙ ap (λ z. z ++ t ∷ []) e;
-        begins = λ x more s. steps_so_far g P ss c (front ++ t ∷ []) more S (steps ++ Read t ∷ []) (k more) x more (like_self more) s;
+        begins = λ x more s. steps_so_far g P ss c (front ++ t ∷ []) more S (steps ++ Read t ∷ []) (k more) x more
+            (like_self more) s;
       };
   idle = refl;
 }
@@ -262,7 +272,9 @@ known_read g P ss c front t S steps sure e k n = record {
 known_common : (g : List Production) (ss : List Symbol) (c : ℕ) (front : List Token) (steps : List Step) (sure : ℕ) →
     Known g ss c front steps sure → IsCommon g ss c front (take sure steps)
 known_common g ss c front steps sure k =
-    let e : k.known ≡ take sure steps = sym (take_known k.known k.others) ∙ (ap (λ z. take z (k.known ++ k.others)) k.count ∙ ap (λ z. take sure z) (sym k.split)) in
+    let e : k.known ≡ take sure steps =
+    sym (take_known k.known k.others) ∙
+    (ap (λ z. take z (k.known ++ k.others)) k.count ∙ ap (λ z. take sure z) (sym k.split)) in
     subst (λ z. IsCommon g ss c front z) e k.common
 
 -- ---- the state
@@ -291,10 +303,12 @@ running_start rules rows ss c n ts top below steps e q f b s =
     let g = grammar_of rules in
     let P = plan_of rows in
     let one : start ss c ≡ stack_of top below = rw (f, b) refl in
-    let h : State g P ss c ts [] ts (start ss c) [] = subst (λ z. State g P z c ts [] ts (start z c) []) (sym q) (state_start g P n c ts e) in
+    let h : State g P ss c ts [] ts (start ss c) [] =
+    subst (λ z. State g P z c ts [] ts (start z c) []) (sym q) (state_start g P n c ts e) in
     record {
       front = [];
-      state = subst (λ z. State g P ss c ts [] ts (stack_of top below) z) (sym s) (subst (λ z. State g P ss c ts [] ts z []) one h);
+      state = subst (λ z. State g P ss c ts [] ts (stack_of top below) z) (sym s)
+          (subst (λ z. State g P ss c ts [] ts z []) one h);
       known = subst (λ z. Known g ss c [] z 0) (sym s) (known_start g ss c);
     }
 
@@ -316,21 +330,26 @@ over_stack : {rules : List Rule} {rows : List Row} {ss : List Symbol} {c : ℕ} 
     {below : List declared.Frame} {steps : List Step} {sure : ℕ} {top : declared.Frame} {at : List Token} →
     (r : Running rules rows ss c tokens below steps sure top at) (S : List Frame) → stack_of top below ≡ S →
     State (grammar_of rules) (plan_of rows) ss c tokens r.front at S steps
-over_stack {rules = rules} {rows = rows} {ss = ss} {c = c} {tokens = tokens} {steps = steps} {at = at} r S e = subst (λ z. State (grammar_of rules) (plan_of rows) ss c tokens r.front at z steps) e r.state
+over_stack {rules = rules} {rows = rows} {ss = ss} {c = c} {tokens = tokens} {steps = steps} {at = at} r S e =
+    subst (λ z. State (grammar_of rules) (plan_of rows) ss c tokens r.front at z steps) e r.state
 
 pub running_closed : {rules : List Rule} {rows : List Row} {ss : List Symbol} {c : ℕ} {tokens : List Token}
     {below : List declared.Frame} {steps : List Step} {sure : ℕ} {top : declared.Frame} {at : List Token} →
     Running rules rows ss c tokens below steps sure top at → (f : declared.Frame) (less : List declared.Frame) →
     top.rest.now ≡ [] → below ≡ less ++ f ∷ [] → Running rules rows ss c tokens less steps sure f at
-running_closed {rules = rules} {rows = rows} {ss = ss} {c = c} {tokens = tokens} {below = below} {steps = steps} {top = top} {at = at} r f less e b = record {
-  front = r.front;
-  state = state_closed (grammar_of rules) (plan_of rows) ss c tokens r.front at top.column (place top.leading) (stack_of f less) steps (over_stack r _ (stack_closed top f below less e b));
-  known = r.known;
-}
+running_closed {rules = rules} {rows = rows} {ss = ss} {c = c} {tokens = tokens} {below = below} {steps =
+    steps} {top = top} {at = at} r f less e b = record {
+      front = r.front;
+      state = state_closed (grammar_of rules) (plan_of rows) ss c tokens r.front at top.column (place top.leading)
+          (stack_of f less) steps (over_stack r _ (stack_closed top f below less e b));
+      known = r.known;
+    }
 
 pub less_closed : (rows : List Row) (top f : declared.Frame) (below less : List declared.Frame) → top.rest.now ≡ [] →
     below ≡ less ++ f ∷ [] → measure (plan_of rows) (stack_of f less) < measure (plan_of rows) (stack_of top below)
-less_closed rows top f below less e b = rw (stack_closed top f below less e b) (measure_closed (plan_of rows) top.column (place top.leading) (stack_of f less))
+less_closed rows top f below less e b =
+    rw (stack_closed top f below less e b)
+    (measure_closed (plan_of rows) top.column (place top.leading) (stack_of f less))
 
 stack_open : (top : declared.Frame) (below : List declared.Frame) (ss : List Symbol) → top.rest.now ≡ ss →
     stack_of top below ≡ frame ss top.column (place top.leading) ∷ tower below []
@@ -354,19 +373,26 @@ pub running_word : {rules : List Rule} {rows : List Row} {ask : List Symbol} {e 
     (f : declared.Frame) (further : List Step) (surer : ℕ) → frame_of f ≡ frame ss top.column inside →
     further ≡ steps ++ Read t ∷ [] → surer ≡ length further →
     Running rules rows ask e tokens below further surer f rest
-running_word {rules = rules} {rows = rows} {ask = ask} {e = e} {tokens = tokens} {below = below} {steps = steps} {sure = sure} {top = top} {at = at} r s ss k t rest q w h f further surer same z n =
+running_word {rules = rules} {rows = rows} {ask = ask} {e = e} {tokens = tokens} {below = below} {steps =
+    steps} {sure = sure} {top = top} {at = at} r s ss k t rest q w h f further surer same z n =
     let g = grammar_of rules in
     let P = plan_of rows in
     let S = tower below [] in
     let m = place top.leading in
-    let a : State g P ask e tokens r.front at (frame (Word k ∷ ss) top.column m ∷ S) steps = over_stack r _ (stack_open top below (Word k ∷ ss) (q ∙ ap (λ z. z ∷ ss) w)) in
-    let b : State g P ask e tokens r.front (t ∷ rest) (frame (Word k ∷ ss) top.column m ∷ S) steps = subst (λ z. State g P ask e tokens r.front z (frame (Word k ∷ ss) top.column m ∷ S) steps) h.0 a in
-    let d : State g P ask e tokens (r.front ++ t ∷ []) rest (frame ss top.column inside ∷ S) (steps ++ Read t ∷ []) = state_word g P ask e tokens r.front rest t top.column k m ss S steps h.1 h.2 b in
+    let a : State g P ask e tokens r.front at (frame (Word k ∷ ss) top.column m ∷ S) steps =
+    over_stack r _ (stack_open top below (Word k ∷ ss) (q ∙ ap (λ z. z ∷ ss) w)) in
+    let b : State g P ask e tokens r.front (t ∷ rest) (frame (Word k ∷ ss) top.column m ∷ S) steps =
+    subst (λ z. State g P ask e tokens r.front z (frame (Word k ∷ ss) top.column m ∷ S) steps) h.0 a in
+    let d : State g P ask e tokens (r.front ++ t ∷ []) rest (frame ss top.column inside ∷ S) (steps ++ Read t ∷ []) =
+    state_word g P ask e tokens r.front rest t top.column k m ss S steps h.1 h.2 b in
     let known : Known g ask e (r.front ++ t ∷ []) (steps ++ Read t ∷ []) surer =
-    known_read g P ask e r.front t (frame ss top.column inside ∷ S) steps surer (tokens_known g ask e r.front steps sure r.known) (keeps_word g P (start ask e) r.front rest t top.column k m ss S steps h.1 h.2 b.keeps) (n ∙ ap length z) in
+    known_read g P ask e r.front t (frame ss top.column inside ∷ S) steps surer
+    (tokens_known g ask e r.front steps sure r.known)
+    (keeps_word g P (start ask e) r.front rest t top.column k m ss S steps h.1 h.2 b.keeps) (n ∙ ap length z) in
     record {
       front = r.front ++ t ∷ [];
-      state = subst (λ y. State g P ask e tokens (r.front ++ t ∷ []) rest (stack_of f below) y) (sym z) (subst (λ z. State g P ask e tokens (r.front ++ t ∷ []) rest (z ∷ S) (steps ++ Read t ∷ [])) (sym same) d);
+      state = subst (λ y. State g P ask e tokens (r.front ++ t ∷ []) rest (stack_of f below) y) (sym z)
+          (subst (λ z. State g P ask e tokens (r.front ++ t ∷ []) rest (z ∷ S) (steps ++ Read t ∷ [])) (sym same) d);
       known = subst (λ y. Known g ask e (r.front ++ t ∷ []) y surer) (sym z) known;
     }
 
@@ -378,7 +404,8 @@ pub choice_stands : (rules : List Rule) (rows : List Row) (top : declared.Frame)
     (s : Symbol) (p b : ℕ) (l : Place) →
     Some (choice p l b) ≡ select (plan_of rows) s (place top.leading) top.column at →
     Selected (grammar_of rules) s (place top.leading) top.column p l b
-choice_stands rules rows top at C s p b l e = selected (grammar_of rules) (plan_of rows) C s (place top.leading) top.column at p l b (sym e)
+choice_stands rules rows top at C s p b l e =
+    selected (grammar_of rules) (plan_of rows) C s (place top.leading) top.column at p l b (sym e)
 
 pub choice_in : (rules : List Rule) (rows : List Row) (top : declared.Frame) (at : List Token) →
     IsPlanned (grammar_of rules) (plan_of rows) →
@@ -400,7 +427,12 @@ ahead g P C ask e front at t more m c s ss S out q o k =
       token = t;
       more = more;
       is = q;
-      viable = (k.grow b.trees, b.more, subst (λ z. Spells g ask e (k.grow b.trees) z) (sym (append_assoc front (t ∷ []) b.more)) (spelled (k.sound b.trees (t ∷ b.more) b.reads)));
+      viable = (
+        k.grow b.trees,
+        b.more,
+        subst (λ z. Spells g ask e (k.grow b.trees) z)
+            (sym (append_assoc front (t ∷ []) b.more)) (spelled (k.sound b.trees (t ∷ b.more) b.reads)),
+      );
     }
 
 state_call : (g : List Production) (P : Plan) → IsPlanned g P →
@@ -413,7 +445,11 @@ state_call g P C ask e ts front at m l c b p s ss S out w q i r = record {
   place = r.place;
   keeps = called at q r.keeps;
   if_ended = elim r.if_ended [
-    | inl k ↦ elim (selects_how P s m c at p l b q) [ inl v ↦ inl (called [] v k) | inr v ↦ inr (ahead g P C ask e front at v.0 v.1 m c s ss S out v.2 v.3 r.keeps) ]
+    | inl k ↦ elim (selects_how P s m c at p l b q) [
+      | inl v ↦ inl (called [] v k)
+      | inr v ↦ inr
+          (ahead g P C ask e front at v.0 v.1 m c s ss S out v.2 v.3 r.keeps)
+    ]
     | inr a ↦ inr a
   ];
 }
@@ -421,7 +457,9 @@ state_call g P C ask e ts front at m l c b p s ss S out w q i r = record {
     called : (us : List Token) → select P s m c us ≡ Some (choice p l b) →
         Keeps g P (start ask e) front us (frame (s ∷ ss) c m ∷ S) out →
         Keeps g P (start ask e) front us (frame i.right b l ∷ aside (frame ss c inside) S) (out ++ Take p ∷ [])
-    called us v k = keeps_aside g P (start ask e) front us i.right ss b c l inside S (out ++ Take p ∷ []) (keeps_call g P C (start ask e) front us m l c b p s ss S out w v i k)
+    called us v k =
+        keeps_aside g P (start ask e) front us i.right ss b c l inside S (out ++ Take p ∷ [])
+        (keeps_call g P C (start ask e) front us m l c b p s ss S out w v i k)
 
 -- the stack after a call
 stack_call : (rules : List Rule) (d : Rule) (s : Symbol) (ss : List Symbol) (m l : Place) (c p b : ℕ)
@@ -431,7 +469,8 @@ stack_call : (rules : List Rule) (d : Rule) (s : Symbol) (ss : List Symbol) (m l
     (tower below [])
 stack_call rules d s ss m l c p b x under below more u w =
     let q : (get_or rules p d).right.now ≡ x.right = right_is rules d p x.asked x.right x.is in
-    let tail : tower more [] ≡ aside (frame ss c inside) (tower below []) = ap (λ z. tower z []) w ∙ (tower_aside under below ∙ ap (λ z. aside z (tower below [])) u) in
+    let tail : tower more [] ≡ aside (frame ss c inside) (tower below []) =
+    ap (λ z. tower z []) w ∙ (tower_aside under below ∙ ap (λ z. aside z (tower below [])) u) in
     ap (λ z. frame z b l ∷ tower more []) q ∙ ap (λ z. frame x.right b l ∷ z) tail
 
 pub running_call : {rules : List Rule} {rows : List Row} {ask : List Symbol} {e : ℕ} {tokens : List Token}
@@ -443,16 +482,22 @@ pub running_call : {rules : List Rule} {rows : List Row} {ask : List Symbol} {e 
     frame_of under ≡ frame ss top.column inside → frame_of f ≡ frame (get_or rules p d).right.now b l →
     more ≡ set_aside under below → further ≡ steps ++ Take p ∷ [] →
     Running rules rows ask e tokens more further sure f at
-running_call {rules = rules} {rows = rows} {ask = ask} {e = e} {tokens = tokens} {below = below} {steps = steps} {sure = sure} {top = top} {at = at} r C s ss o w p b l q d f under more further u same v z =
+running_call {rules = rules} {rows = rows} {ask = ask} {e = e} {tokens = tokens} {below = below} {steps =
+    steps} {sure = sure} {top = top} {at = at} r C s ss o w p b l q d f under more further u same v z =
     let x = choice_stands rules rows top at C s p b l q in
     let g = grammar_of rules in
     let P = plan_of rows in
-    let a : State g P ask e tokens r.front at (frame (s ∷ ss) top.column (place top.leading) ∷ tower below []) steps = over_stack r _ (stack_open top below (s ∷ ss) o) in
-    let k = state_call g P C ask e tokens r.front at (place top.leading) l top.column b p s ss (tower below []) steps w (sym q) x a in
-    let st : stack_of f more ≡ frame x.right b l ∷ aside (frame ss top.column inside) (tower below []) = ap (λ z. z ∷ tower more []) same ∙ stack_call rules d s ss (place top.leading) l top.column p b x under below more u v in
+    let a : State g P ask e tokens r.front at (frame (s ∷ ss) top.column (place top.leading) ∷ tower below []) steps =
+    over_stack r _ (stack_open top below (s ∷ ss) o) in
+    let k = state_call g P C ask e tokens r.front at (place top.leading) l top.column b p s ss
+    (tower below []) steps w (sym q) x a in
+    let st : stack_of f more ≡ frame x.right b l ∷ aside (frame ss top.column inside) (tower below []) =
+    ap (λ z. z ∷ tower more []) same ∙ stack_call rules d s ss
+    (place top.leading) l top.column p b x under below more u v in
     record {
       front = r.front;
-      state = subst (λ y. State g P ask e tokens r.front at (stack_of f more) y) (sym z) (subst (λ y. State g P ask e tokens r.front at y (steps ++ Take p ∷ [])) (sym st) k);
+      state = subst (λ y. State g P ask e tokens r.front at (stack_of f more) y) (sym z)
+          (subst (λ y. State g P ask e tokens r.front at y (steps ++ Take p ∷ [])) (sym st) k);
       known = subst (λ y. Known g ask e r.front y sure) (sym z) (known_take g ask e r.front steps sure p r.known);
     }
 
@@ -466,13 +511,20 @@ pub less_call : {rules : List Rule} {rows : List Row} {ask : List Symbol} {e : �
     Some (choice p l b) ≡ select (plan_of rows) s (place top.leading) top.column at →
     (d : Rule) (under : declared.Frame) (more : List declared.Frame) →
     frame_of under ≡ frame ss top.column inside → more ≡ set_aside under below →
-    measure (plan_of rows) (frame (get_or rules p d).right.now b l ∷ tower more []) < measure (plan_of rows) (stack_of top below)
-less_call {rules = rules} {rows = rows} {ask = ask} {e = e} {tokens = tokens} {below = below} {steps = steps} {top = top} {at = at} r C s ss o p b l q d under more u v =
+    measure (plan_of rows) (frame (get_or rules p d).right.now b l ∷ tower more []) < measure (plan_of rows)
+    (stack_of top below)
+less_call {rules = rules} {rows = rows} {ask = ask} {e = e} {tokens = tokens} {below = below} {steps = steps} {top =
+    top} {at = at} r C s ss o p b l q d under more u v =
     let x = choice_stands rules rows top at C s p b l q in
-    let a : State (grammar_of rules) (plan_of rows) ask e tokens r.front at (frame (s ∷ ss) top.column (place top.leading) ∷ tower below []) steps = over_stack r _ (stack_open top below (s ∷ ss) o) in
-    let h = measure_call (grammar_of rules) (plan_of rows) C p x.right ss (tower below []) a.keeps.good.1.0 x.calls x.is in
+    let a : State (grammar_of rules) (plan_of rows) ask e tokens r.front at
+    (frame (s ∷ ss) top.column (place top.leading) ∷ tower below []) steps = over_stack r _
+    (stack_open top below (s ∷ ss) o) in
+    let h = measure_call (grammar_of rules) (plan_of rows) C p x.right ss
+    (tower below []) a.keeps.good.1.0 x.calls x.is in
     let t = measure_aside (plan_of rows) x.right ss b top.column l inside (tower below []) in
-    let one = ap (measure (plan_of rows)) (stack_call rules d s ss (place top.leading) l top.column p b x under below more u v) in
+    let one =
+    ap (measure (plan_of rows))
+    (stack_call rules d s ss (place top.leading) l top.column p b x under below more u v) in
     let two = ap (measure (plan_of rows)) (stack_open top below (s ∷ ss) o) in
     less_by _ _ _ _ _ one t h two
 
@@ -489,7 +541,11 @@ stop_refused g P C ask e ts front at S steps sure r k more none =
       front = front;
       longest = longest;
       common = known_common g ask e front steps sure k;
-      ended = elim r.if_ended [ inl z ↦ read_none g P ask e front S steps z none | inr a ↦ absurd (longest.no_further a.token a.more a.is a.viable) ];
+      ended = elim r.if_ended [
+        | inl z ↦ read_none g P ask e front S steps z none
+        | inr a ↦ absurd
+            (longest.no_further a.token a.more a.is a.viable)
+      ];
     }
 
 stop_whole : (g : List Production) (P : Plan) → IsPlanned g P →
@@ -503,17 +559,24 @@ stop_whole g P C ask e ts front at steps sure r k =
       front = front;
       longest = longest;
       common = known_common g ask e front steps sure k;
-      ended = elim r.if_ended [ inl z ↦ read_whole g P ask e front steps z | inr a ↦ absurd (longest.no_further a.token a.more a.is a.viable) ];
+      ended = elim r.if_ended [
+        | inl z ↦ read_whole g P ask e front steps z
+        | inr a ↦ absurd
+            (longest.no_further a.token a.more a.is a.viable)
+      ];
     }
 
 pub whole_stop : {rules : List Rule} {rows : List Row} {ask : List Symbol} {e : ℕ} {tokens : List Token}
     {below : List declared.Frame} {steps : List Step} {sure : ℕ} {top : declared.Frame} {at : List Token} →
     Running rules rows ask e tokens below steps sure top at → IsPlanned (grammar_of rules) (plan_of rows) →
     top.rest.now ≡ [] → below ≡ [] → IsStop (grammar_of rules) ask e tokens steps sure at true
-whole_stop {rules = rules} {rows = rows} {ask = ask} {e = e} {tokens = tokens} {below = below} {steps = steps} {sure = sure} {top = top} {at = at} r C q b =
+whole_stop {rules = rules} {rows = rows} {ask = ask} {e = e} {tokens = tokens} {below = below} {steps = steps} {sure =
+    sure} {top = top} {at = at} r C q b =
     let g = grammar_of rules in
     let P = plan_of rows in
-    let k = state_closed g P ask e tokens r.front at top.column (place top.leading) [] steps (over_stack r _ (stack_open top below [] q ∙ ap (λ z. frame [] top.column (place top.leading) ∷ tower z []) b)) in
+    let k = state_closed g P ask e tokens r.front at top.column (place top.leading) [] steps
+    (over_stack r _
+    (stack_open top below [] q ∙ ap (λ z. frame [] top.column (place top.leading) ∷ tower z []) b)) in
     stop_whole g P C ask e tokens r.front at steps sure k r.known
 
 pub word_stop : {rules : List Rule} {rows : List Row} {ask : List Symbol} {e : ℕ} {tokens : List Token}
@@ -522,7 +585,8 @@ pub word_stop : {rules : List Rule} {rows : List Row} {ask : List Symbol} {e : �
     (s : Symbol) (ss : List Symbol) (k : ℕ) → top.rest.now ≡ s ∷ ss → s ≡ Word k →
     ((t : Token) (rest : List Token) → WordAt (place top.leading) top.column k at t rest → ⊥) →
     IsStop (grammar_of rules) ask e tokens steps sure at false
-word_stop {rules = rules} {rows = rows} {ask = ask} {e = e} {tokens = tokens} {below = below} {steps = steps} {sure = sure} {top = top} {at = at} r C s ss k q w h =
+word_stop {rules = rules} {rows = rows} {ask = ask} {e = e} {tokens = tokens} {below = below} {steps = steps} {sure =
+    sure} {top = top} {at = at} r C s ss k q w h =
     let g = grammar_of rules in
     let m = place top.leading in
     let S = tower below [] in
@@ -539,12 +603,14 @@ pub call_stop : {rules : List Rule} {rows : List Row} {ask : List Symbol} {e : �
     (s : Symbol) (ss : List Symbol) → top.rest.now ≡ s ∷ ss → IsNoWord s →
     None ≡ select (plan_of rows) s (place top.leading) top.column at →
     IsStop (grammar_of rules) ask e tokens steps sure at false
-call_stop {rules = rules} {rows = rows} {ask = ask} {e = e} {tokens = tokens} {below = below} {steps = steps} {sure = sure} {top = top} {at = at} r C s ss q w n =
+call_stop {rules = rules} {rows = rows} {ask = ask} {e = e} {tokens = tokens} {below = below} {steps = steps} {sure =
+    sure} {top = top} {at = at} r C s ss q w n =
     let g = grammar_of rules in
     let P = plan_of rows in
     let m = place top.leading in
     let S = tower below [] in
-    let k : State g P ask e tokens r.front at (frame (s ∷ ss) top.column m ∷ S) steps = over_stack r _ (stack_open top below (s ∷ ss) q) in
+    let k : State g P ask e tokens r.front at (frame (s ∷ ss) top.column m ∷ S) steps =
+    over_stack r _ (stack_open top below (s ∷ ss) q) in
     let here = refuses_call g P C at m top.column s ss S w k.keeps.good (sym n) in
     stop_refused g P C ask e tokens r.front at (frame (s ∷ ss) top.column m ∷ S) steps sure k r.known
     (λ t more v. here)

@@ -33,7 +33,8 @@ production_of : (g : List Production) (P : Plan) → IsPlanned g P → (n p : �
 production_of g P C n p l e = go (P.takes n l) refl
   where
     go : (o : Option ℕ) → P.takes n l ≡ o → (r : List Symbol) × Is g p n r
-    go (Some q) w = (let k : P.takes n l ≡ Some p = w ∙ (sym (ap (λ x. or_else x (P.empty n)) w) ∙ e) in let x = C.taken n p l k in (x.0 ∷ x.1, x.2))
+    go (Some q) w = (let k : P.takes n l ≡ Some p = w ∙ (sym (ap (λ x. or_else x (P.empty n)) w) ∙ e) in let x =
+        C.taken n p l k in (x.0 ∷ x.1, x.2))
     go None w = ([], C.vanished n p (sym (ap (λ x. or_else x (P.empty n)) w) ∙ e))
 
 part_selected : (g : List Production) (P : Plan) → IsPlanned g P →
@@ -42,33 +43,45 @@ part_selected : (g : List Production) (P : Plan) → IsPlanned g P →
 part_selected g P C n m c p l b k e =
     let w = chosen_is m l c b p _ e in
     let x = production_of g P C n p k w.0 in
-    record { asked = n; right = x.0; calls = subst (λ z. Calls m c (Part n) n z b) w.1 (subst (λ z. Calls m c (Part n) n m z) w.2 a_part); is = x.1 }
+    record {
+      asked = n;
+      right = x.0;
+      calls =
+          subst (λ z. Calls m c (Part n) n z b) w.1 (subst (λ z. Calls m c (Part n) n m z) w.2 a_part);
+      is = x.1;
+    }
 
 -- an empty text selects what the first token selects, or the symbol opens with that token
 pub selects_how : (P : Plan) (s : Symbol) (m : Place) (c : ℕ) (at : List Token) (p : ℕ) (l : Place) (b : ℕ) →
     select P s m c at ≡ Some (choice p l b) →
-    (select P s m c [] ≡ Some (choice p l b)) ⊎ ((t : Token) × (ts : List Token) × (at ≡ t ∷ ts) × Opens P s (look m c t))
+    (select P s m c [] ≡ Some (choice p l b)) ⊎
+    ((t : Token) × (ts : List Token) × (at ≡ t ∷ ts) × Opens P s (look m c t))
 selects_how P (Part n) m c [] p l b e = inl e
 selects_how P (Part n) m c (t ∷ ts) p l b e = go (P.takes n (look m c t)) refl
   where
     go : (o : Option ℕ) → P.takes n (look m c t) ≡ o →
-        (select P (Part n) m c [] ≡ Some (choice p l b)) ⊎ ((u : Token) × (us : List Token) × (t ∷ ts ≡ u ∷ us) × Opens P (Part n) (look m c u))
+        (select P (Part n) m c [] ≡ Some (choice p l b)) ⊎
+        ((u : Token) × (us : List Token) × (t ∷ ts ≡ u ∷ us) × Opens P (Part n) (look m c u))
     go (Some q) w = inr (t, ts, refl, (q, w))
     go None w = inl (sym (ap (λ x. chosen m c (or_else x (P.empty n))) w) ∙ e)
 selects_how P (Line n) inside c (t ∷ ts) p l b e = go (nat_eq t.column c) refl e
   where
     go : (x : Bool) → nat_eq t.column c ≡ x →
         cond x (chosen leading c (P.takes n (beyond t.class))) None ≡ Some (choice p l b) →
-        (select P (Line n) inside c [] ≡ Some (choice p l b)) ⊎ ((u : Token) × (us : List Token) × (t ∷ ts ≡ u ∷ us) × Opens P (Line n) (look inside c u))
+        (select P (Line n) inside c [] ≡ Some (choice p l b)) ⊎
+        ((u : Token) × (us : List Token) × (t ∷ ts ≡ u ∷ us) × Opens P (Line n) (look inside c u))
     go false y q = absurd cc
-    go true y q = inr (t, ts, refl, (t.class, is_level c t (eq_true t.column c y), p, (chosen_is leading l c b p _ q).0))
+    go true y q =
+        inr (t, ts, refl, (t.class, is_level c t (eq_true t.column c y), p, (chosen_is leading l c b p _ q).0))
 selects_how P (Block n) inside c (t ∷ ts) p l b e = go (nat_lt c t.column) refl e
   where
     go : (x : Bool) → nat_lt c t.column ≡ x →
         cond x (chosen inside t.column (P.takes n (level t.class))) None ≡ Some (choice p l b) →
-        (select P (Block n) inside c [] ≡ Some (choice p l b)) ⊎ ((u : Token) × (us : List Token) × (t ∷ ts ≡ u ∷ us) × Opens P (Block n) (look inside c u))
+        (select P (Block n) inside c [] ≡ Some (choice p l b)) ⊎
+        ((u : Token) × (us : List Token) × (t ∷ ts ≡ u ∷ us) × Opens P (Block n) (look inside c u))
     go false y q = absurd cc
-    go true y q = inr (t, ts, refl, (t.class, is_inside c t (lt_true c t.column y), p, (chosen_is inside l t.column b p _ q).0))
+    go true y q =
+        inr (t, ts, refl, (t.class, is_inside c t (lt_true c t.column y), p, (chosen_is inside l t.column b p _ q).0))
 selects_how P (Word k) m c ts p l b e = absurd cc
 selects_how P (Line n) leading c ts p l b e = absurd cc
 selects_how P (Block n) leading c ts p l b e = absurd cc
@@ -82,7 +95,8 @@ selects_none P (Part n) m c [] e = e
 selects_none P (Part n) m c (t ∷ ts) e = go (P.takes n (look m c t)) refl
   where
     go : (o : Option ℕ) → P.takes n (look m c t) ≡ o → select P (Part n) m c [] ≡ None
-    go (Some q) w = absurd (let v : Some (choice q m c) ≡ None = sym (ap (λ x. chosen m c (or_else x (P.empty n))) w) ∙ e in cc)
+    go (Some q) w = absurd (let v : Some (choice q m c) ≡ None =
+        sym (ap (λ x. chosen m c (or_else x (P.empty n))) w) ∙ e in cc)
     go None w = sym (ap (λ x. chosen m c (or_else x (P.empty n))) w) ∙ e
 selects_none P (Word k) m c at e = refl
 selects_none P (Line n) inside c at e = refl
@@ -93,7 +107,8 @@ selects_none P (Block n) leading c at e = refl
 pub selected : (g : List Production) (P : Plan) → IsPlanned g P →
     (s : Symbol) (m : Place) (c : ℕ) (ts : List Token) (p : ℕ) (l : Place) (b : ℕ) →
     select P s m c ts ≡ Some (choice p l b) → Selected g s m c p l b
-selected g P C (Part n) m c [] p l b e = part_selected g P C n m c p l b outside (ap (λ x. chosen m c (or_else x (P.empty n))) (C.nowhere n) ∙ e)
+selected g P C (Part n) m c [] p l b e =
+    part_selected g P C n m c p l b outside (ap (λ x. chosen m c (or_else x (P.empty n))) (C.nowhere n) ∙ e)
 selected g P C (Part n) m c (t ∷ ts) p l b e = part_selected g P C n m c p l b (look m c t) e
 selected g P C (Line n) inside c (t ∷ ts) p l b e = go (nat_eq t.column c) e
   where
@@ -103,7 +118,14 @@ selected g P C (Line n) inside c (t ∷ ts) p l b e = go (nat_eq t.column c) e
     go true q =
         (let w = chosen_is leading l c b p _ q in
         let x = C.taken n p (beyond t.class) w.0 in
-        record { asked = n; right = x.0 ∷ x.1; calls = subst (λ z. Calls inside c (Line n) n z b) w.1 (subst (λ z. Calls inside c (Line n) n leading z) w.2 a_line); is = x.2 })
+        record {
+          asked = n;
+          right = x.0 ∷ x.1;
+          calls =
+              subst (λ z. Calls inside c (Line n) n z b) w.1
+              (subst (λ z. Calls inside c (Line n) n leading z) w.2 a_line);
+          is = x.2;
+        })
 selected g P C (Block n) inside c (t ∷ ts) p l b e = go (nat_lt c t.column) refl e
   where
     go : (x : Bool) → nat_lt c t.column ≡ x →
@@ -113,7 +135,14 @@ selected g P C (Block n) inside c (t ∷ ts) p l b e = go (nat_lt c t.column) re
     go true y q =
         (let w = chosen_is inside l t.column b p _ q in
         let x = C.taken n p (level t.class) w.0 in
-        record { asked = n; right = x.0 ∷ x.1; calls = subst (λ z. Calls inside c (Block n) n z b) w.1 (subst (λ z. Calls inside c (Block n) n inside z) w.2 (a_block (lt_true c t.column y))); is = x.2 })
+        record {
+          asked = n;
+          right = x.0 ∷ x.1;
+          calls =
+              subst (λ z. Calls inside c (Block n) n z b) w.1
+              (subst (λ z. Calls inside c (Block n) n inside z) w.2 (a_block (lt_true c t.column y)));
+          is = x.2;
+        })
 selected g P C (Word k) m c ts p l b e = absurd cc
 selected g P C (Line n) leading c ts p l b e = absurd cc
 selected g P C (Block n) leading c ts p l b e = absurd cc
@@ -138,13 +167,15 @@ full_part : (g : List Production) (P : Plan) (m : Place) (c n p : ℕ) (ts : Lis
     (s : Symbol) (r : List Symbol) → Is g p n (s ∷ r) → OpensAt P s m c ts →
     select P (Part n) m c ts ≡ Some (choice p m c)
 full_part g P m c n p [] C s r i o = absurd o
-full_part g P m c n p (t ∷ ts) C s r i o = ap (λ x. chosen m c (or_else x (P.empty n))) (C.opening p n s r (look m c t) i o)
+full_part g P m c n p (t ∷ ts) C s r i o =
+    ap (λ x. chosen m c (or_else x (P.empty n))) (C.opening p n s r (look m c t) i o)
 
 full_line : (g : List Production) (P : Plan) (c n p : ℕ) (ts : List Token) → IsPlanned g P →
     (s : Symbol) (r : List Symbol) → Is g p n (s ∷ r) → OpensAt P s leading c ts →
     select P (Line n) inside c ts ≡ Some (choice p leading c)
 full_line g P c n p [] C s r i o = absurd o
-full_line g P c n p (t ∷ ts) C s r i o = go (look leading c t) (seen leading c t) (C.opening p n s r (look leading c t) i o)
+full_line g P c n p (t ∷ ts) C s r i o =
+    go (look leading c t) (seen leading c t) (C.opening p n s r (look leading c t) i o)
   where
     go : (l : Look) → Seen leading c t l → P.takes n l ≡ Some p →
         select P (Line n) inside c (t ∷ ts) ≡ Some (choice p leading c)
@@ -156,7 +187,8 @@ full_block : (g : List Production) (P : Plan) (c b n p : ℕ) (ts : List Token) 
     Fits g P (Block n) → (s : Symbol) (r : List Symbol) → Is g p n (s ∷ r) → OpensAt P s inside b ts →
     select P (Block n) inside c ts ≡ Some (choice p inside b)
 full_block g P c b n p [] C h f s r i o = absurd o
-full_block g P c b n p (t ∷ ts) C h f s r i o = go (look inside b t) (seen inside b t) (C.opening p n s r (look inside b t) i o)
+full_block g P c b n p (t ∷ ts) C h f s r i o =
+    go (look inside b t) (seen inside b t) (C.opening p n s r (look inside b t) i o)
   where
     go : (l : Look) → Seen inside b t l → P.takes n l ≡ Some p →
         select P (Block n) inside c (t ∷ ts) ≡ Some (choice p inside b)
@@ -168,9 +200,14 @@ pub selects : (g : List Production) (P : Plan) → IsPlanned g P → {m l : Plac
     (p : ℕ) (r ss : List Symbol) (S : List Frame) (x y : Tree) (xs : List Tree) (ts : List Token) →
     Good g P (frame (s ∷ ss) c m ∷ S) → Calls m c s n l b → Is g p n r →
     Reads g (frame r b l ∷ frame ss c inside ∷ S) (x ∷ y ∷ xs) ts → select P s m c ts ≡ Some (choice p l b)
-selects g P C {m = m} {c = c} {n = n} p [] ss S x y xs ts h a_part i (closed d) = empty_part g P C m c n p ss S _ ts h i d
+selects g P C {m = m} {c = c} {n = n} p [] ss S x y xs ts h a_part i (closed d) =
+    empty_part g P C m c n p ss S _ ts h i d
 selects g P C {n = n} p [] ss S x y xs ts h a_line i d = absurd (let e = C.vanishing p n i in let f = h.1.0.2 in cc)
-selects g P C {n = n} p [] ss S x y xs ts h (a_block w) i d = absurd (let e = C.vanishing p n i in let f = h.1.0.1 in cc)
-selects g P C {m = m} {c = c} {n = n} p (s2 ∷ r) ss S x y xs ts h a_part i d = full_part g P m c n p ts C s2 r i (opens g P C (C.firm p n s2 r i) (C.orderly p n (s2 ∷ r) i).0 d)
-selects g P C {c = c} {n = n} p (s2 ∷ r) ss S x y xs ts h a_line i d = full_line g P c n p ts C s2 r i (opens g P C (C.firm p n s2 r i) (C.orderly p n (s2 ∷ r) i).0 d)
-selects g P C {c = c} {b = b} {n = n} p (s2 ∷ r) ss S x y xs ts h (a_block w) i d = full_block g P c b n p ts C w h.1.0 s2 r i (opens g P C (C.firm p n s2 r i) (C.orderly p n (s2 ∷ r) i).0 d)
+selects g P C {n = n} p [] ss S x y xs ts h (a_block w) i d = absurd (let e = C.vanishing p n i in let f =
+    h.1.0.1 in cc)
+selects g P C {m = m} {c = c} {n = n} p (s2 ∷ r) ss S x y xs ts h a_part i d =
+    full_part g P m c n p ts C s2 r i (opens g P C (C.firm p n s2 r i) (C.orderly p n (s2 ∷ r) i).0 d)
+selects g P C {c = c} {n = n} p (s2 ∷ r) ss S x y xs ts h a_line i d =
+    full_line g P c n p ts C s2 r i (opens g P C (C.firm p n s2 r i) (C.orderly p n (s2 ∷ r) i).0 d)
+selects g P C {c = c} {b = b} {n = n} p (s2 ∷ r) ss S x y xs ts h (a_block w) i d =
+    full_block g P c b n p ts C w h.1.0 s2 r i (opens g P C (C.firm p n s2 r i) (C.orderly p n (s2 ∷ r) i).0 d)

@@ -71,7 +71,15 @@ pub record Apart (g : List Production) (ss : List Symbol) (c : ℕ) (m : Place) 
 
 apart_of : {g : List Production} {ss : List Symbol} {c : ℕ} {m : Place} {S : List Frame} {xs : List Tree}
     {ts : List Token} → Each g (frame ss c m ∷ S) xs ts → Apart g ss c m S xs ts
-apart_of (one {x = x} {xs = xs} {rest = rest} d h) = record { x = x; others = xs; rest = rest; trees = refl; derives = d; reads = join h }
+apart_of (one {x = x} {xs = xs} {rest = rest} d h) = record {
+  x = x;
+  others = xs;
+  rest = rest;
+  trees = refl;
+  derives =
+      d;
+  reads = join h;
+}
 
 pub apart : {g : List Production} {ss : List Symbol} {c : ℕ} {m : Place} {S : List Frame} {xs : List Tree}
     {ts : List Token} → Reads g (frame ss c m ∷ S) xs ts → Apart g ss c m S xs ts

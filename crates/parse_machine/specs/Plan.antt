@@ -136,7 +136,8 @@ abbrev pub select : Plan → Symbol → Place → ℕ → List Token → Option 
 select P (Part n) m c [] = chosen m c (P.empty n)
 select P (Part n) m c (t ∷ ts) = chosen m c (or_else (P.takes n (look m c t)) (P.empty n))
 select P (Line n) inside c (t ∷ ts) = cond (nat_eq t.column c) (chosen leading c (P.takes n (beyond t.class))) None
-select P (Block n) inside c (t ∷ ts) = cond (nat_lt c t.column) (chosen inside t.column (P.takes n (level t.class))) None
+select P (Block n) inside c (t ∷ ts) =
+    cond (nat_lt c t.column) (chosen inside t.column (P.takes n (level t.class))) None
 select P _ m c ts = None
 
 abbrev pub IsNoWord : Symbol → Type 0

@@ -75,20 +75,29 @@ no_cell o = nat_eq (empty_cell o) 0
 -- the looks that may begin a symbol
 abbrev pub openers : List Row → Symbol → Looks
 openers rows (Word set) = record { right = bits 64 set; equal = [] }
-openers rows (Part n) = record { right = marks (cells (slice_get rows n)); equal = marks (level_cells (slice_get rows n)) }
+openers rows (Part n) = record {
+  right = marks (cells (slice_get rows n));
+  equal =
+      marks (level_cells (slice_get rows n));
+}
 openers rows (Line n) = record { right = []; equal = marks (cells (slice_get rows n)) }
 openers rows (Block n) = record { right = marks (level_cells (slice_get rows n)); equal = [] }
 
 -- those at which n takes the production that q names
 abbrev pub takers : List Row → ℕ → ℕ → Looks
-takers rows q n = record { right = equals q (cells (slice_get rows n)); equal = equals q (level_cells (slice_get rows n)) }
+takers rows q n = record {
+  right = equals q (cells (slice_get rows n));
+  equal =
+      equals q (level_cells (slice_get rows n));
+}
 
 -- these looks may come after the symbol
 abbrev pub allows : List Row → Symbol → Looks → Bool
 allows rows (Word k) A = true
 allows rows (Part n) A = subset A (followers (slice_get rows n))
 allows rows (Line n) A = subset A (followers (slice_get rows n))
-allows rows (Block n) A = implied A.right (followers (slice_get rows n)).right && implied A.right (followers (slice_get rows n)).equal
+allows rows (Block n) A =
+    implied A.right (followers (slice_get rows n)).right && implied A.right (followers (slice_get rows n)).equal
 
 abbrev pub vanishing : List Row → Symbol → Bool
 vanishing rows (Part n) = not (no_cell (slice_get rows n))
@@ -109,7 +118,8 @@ abbrev pub fits : List Row → Symbol → Bool
 fits rows (Word set) = has_one (bits 64 set)
 fits rows (Part n) = nat_lt n (length rows)
 fits rows (Line n) = nat_lt n (length rows) && is_plain (slice_get rows n) && no_cell (slice_get rows n)
-fits rows (Block n) = nat_lt n (length rows) && no_cell (slice_get rows n) && implied (marks (cells (slice_get rows n))) []
+fits rows (Block n) =
+    nat_lt n (length rows) && no_cell (slice_get rows n) && implied (marks (cells (slice_get rows n))) []
 
 abbrev pub starts : List Row → List Symbol → Bool
 starts rows (Word k ∷ ss) = true
@@ -140,10 +150,13 @@ all_lower rows h (s ∷ ss) = lower rows h s && all_lower rows h ss
 
 abbrev pub heads : List Row → ℕ → ℕ → List Symbol → Bool
 heads rows p n [] = nat_eq (empty_cell (slice_get rows n)) (suc p)
-heads rows p n (s ∷ ss) = subset (openers rows s) (takers rows (suc p) n) && subset (takers rows (suc p) n) (openers rows s) && full rows s && ranked rows (rank_cell (slice_get rows n)) s
+heads rows p n (s ∷ ss) =
+    subset (openers rows s) (takers rows (suc p) n) && subset (takers rows (suc p) n) (openers rows s) && full rows s
+    && ranked rows (rank_cell (slice_get rows n)) s
 
 abbrev pub rule_planned : List Row → ℕ → Production → Bool
-rule_planned rows p (n ⟶ r) = heads rows p n r && (not (is_plain (slice_get rows n)) || starts rows r) && orderly rows n r
+rule_planned rows p (n ⟶ r) =
+    heads rows p n r && (not (is_plain (slice_get rows n)) || starts rows r) && orderly rows n r
 
 abbrev pub rules_planned : List Row → ℕ → List Production → Bool
 rules_planned rows p [] = true
@@ -166,10 +179,15 @@ all_named g n [] = true
 all_named g n (x ∷ xs) = (nat_eq x 0 || is_some_of n (production g (x - 1))) && all_named g n xs
 
 abbrev pub empty_planned : List Production → Row → ℕ → Bool
-empty_planned g r n = nat_eq r.empty 0 || (is_none_of n (production g (r.empty - 1)) && disjoint (bits 64 r.follows) (marks r.beyond) && disjoint (bits 64 r.follows_level) (marks r.level))
+empty_planned g r n =
+    nat_eq r.empty 0 ||
+    (is_none_of n (production g (r.empty - 1)) && disjoint (bits 64 r.follows) (marks r.beyond)
+    && disjoint (bits 64 r.follows_level) (marks r.level))
 
 abbrev pub row_planned : List Production → List Row → ℕ → Row → Bool
-row_planned g rows n r = all_named g n r.beyond && all_named g n r.level && empty_planned g r n && is_short_of rows r.height n (production g r.short)
+row_planned g rows n r =
+    all_named g n r.beyond && all_named g n r.level && empty_planned g r n
+    && is_short_of rows r.height n (production g r.short)
 
 abbrev pub rows_planned : List Production → List Row → ℕ → List Row → Bool
 rows_planned g rows n [] = true

@@ -86,7 +86,9 @@ fn read<'a>(
     leading: bool,
     column: u32,
 ) -> Option<(Token, &'a [Token])>
-    ensures { MatchOption result ((t : Token) (rest : List Token) → WordAt (place leading) column classes at.now t rest → ⊥) (λ x. WordAt (place leading) column classes at.now x.0 x.1.now) }
+    ensures { MatchOption result
+        ((t : Token) (rest : List Token) → WordAt (place leading) column classes at.now t rest → ⊥)
+        (λ x. WordAt (place leading) column classes at.now x.0 x.1.now) }
 {
     let (token, rest) = next(at)?;
     if is_one_of(classes, token.class) && stands(leading, column, token) {
@@ -119,7 +121,8 @@ pub fn run<'s, 'a>(
 ) -> Result<Stop<'a>, AllocError>
     requires planned { IsTrue (planned (grammar_of rules.now) rows.now) }
     requires begun { IsStart rows.now begin.now }
-    ensures { IfOk result (λ s. IsStop (grammar_of rules.now) begin.now column tokens.now s.steps.items s.sure s.at.now s.whole) }
+    ensures { IfOk result (λ s.
+        IsStop (grammar_of rules.now) begin.now column tokens.now s.steps.items s.sure s.at.now s.whole) }
 {
     let mut below: Vec<Frame<'s>> = Vec::new(alloc);
     let mut steps: Vec<Step> = Vec::new(alloc);

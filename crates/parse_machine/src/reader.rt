@@ -38,8 +38,10 @@ pub fn parse<'a>(
 ) -> Result<Vec<Step>, Fault<'a>>
     requires planned { IsTrue (planned (grammar_of table.rules.now) table.rows.now) }
     requires started { start < length table.rows.now }
-    ensures read { IfOk result (λ v. IsReading (grammar_of table.entry.rules.now) (Part start ∷ []) column tokens.now v.items) }
-    ensures fault { IfErr result (λ f. IsFault (grammar_of table.entry.rules.now) (Part start ∷ []) column tokens.now f) }
+    ensures read { IfOk result (λ v.
+        IsReading (grammar_of table.entry.rules.now) (Part start ∷ []) column tokens.now v.items) }
+    ensures fault { IfErr result (λ f.
+        IsFault (grammar_of table.entry.rules.now) (Part start ∷ []) column tokens.now f) }
 {
     let begin = [Symbol::Part(start)];
     let stop = run(alloc, table.rules, table.rows, &begin, column, tokens)?;
@@ -62,8 +64,10 @@ pub fn parse_front<'a>(
 ) -> Result<(Vec<Step>, &'a [Token]), Fault<'a>>
     requires planned { IsTrue (planned (grammar_of table.rules.now) table.rows.now) }
     requires started { start < length table.rows.now }
-    ensures read { IfOk result (λ v. IsFront (grammar_of table.entry.rules.now) (Part start ∷ []) column tokens.now v.1.now v.0.items) }
-    ensures fault { IfErr result (λ f. IsFrontFault (grammar_of table.entry.rules.now) (Part start ∷ []) column tokens.now f) }
+    ensures read { IfOk result (λ v.
+        IsFront (grammar_of table.entry.rules.now) (Part start ∷ []) column tokens.now v.1.now v.0.items) }
+    ensures fault { IfErr result (λ f.
+        IsFrontFault (grammar_of table.entry.rules.now) (Part start ∷ []) column tokens.now f) }
 {
     let begin = [Symbol::Part(start)];
     let stop = run(alloc, table.rules, table.rows, &begin, column, tokens)?;

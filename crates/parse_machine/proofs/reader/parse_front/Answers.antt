@@ -1,3 +1,4 @@
+-- A stop is the reading of the longest front (`front_reading`), or its fault (`front_fault`).
 use Rattle.std.proofs.Common.{refl}
 use Rattle.parse_machine.proofs.Stopping.{front_reading, front_fault}
 use Rattle.parse_machine.proofs.reader.parse_front.Goals as goal
