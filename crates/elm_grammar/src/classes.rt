@@ -10,46 +10,87 @@ use parse_machine::table::Token as Classed;
 use std::alloc::{AllocError, Global};
 
 const NAME: u8 = 0;
+
 const ALIAS: u8 = 1;
+
 const UPPER: u8 = 2;
+
 const QUALIFIED: u8 = 3;
+
 const QUALIFIED_UPPER: u8 = 4;
+
 const NUMBER: u8 = 5;
+
 const TEXT: u8 = 6;
+
 const ACCESSOR: u8 = 7;
+
 const ACCESS: u8 = 8;
+
 const UNDERSCORE: u8 = 9;
+
 const OPERATOR: u8 = 10;
+
 const CONS: u8 = 11;
+
 const MINUS_TIGHT: u8 = 12;
+
 const MINUS_PREFIX: u8 = 13;
+
 const MINUS_APART: u8 = 14;
+
 const OPEN_PAREN: u8 = 15;
+
 const CLOSE_PAREN: u8 = 16;
+
 const OPEN_SQUARE: u8 = 17;
+
 const CLOSE_SQUARE: u8 = 18;
+
 const OPEN_BRACE: u8 = 19;
+
 const CLOSE_BRACE: u8 = 20;
+
 const COMMA: u8 = 21;
+
 const EQUALS: u8 = 22;
+
 const ARROW: u8 = 23;
+
 const COLON: u8 = 24;
+
 const BAR: u8 = 25;
+
 const DOTS: u8 = 26;
+
 const BACKSLASH: u8 = 27;
+
 const IF: u8 = 28;
+
 const THEN: u8 = 29;
+
 const ELSE: u8 = 30;
+
 const CASE: u8 = 31;
+
 const OF: u8 = 32;
+
 const LET: u8 = 33;
+
 const IN: u8 = 34;
+
 const TYPE: u8 = 35;
+
 const MODULE: u8 = 36;
+
 const IMPORT: u8 = 37;
+
 const EXPOSING: u8 = 38;
+
 const AS: u8 = 39;
+
 const PORT: u8 = 40;
+
 const OTHER: u8 = 41;
 
 fn is(text: &[u8], word: &str) -> bool
@@ -62,7 +103,11 @@ fn is(text: &[u8], word: &str) -> bool
 fn ends_operand(before: u8) -> bool
     ensures { result ≡ ends_operand before }
 {
-    before == NAME || before == QUALIFIED || before == CLOSE_PAREN || before == CLOSE_BRACE || before == ACCESS
+    before == NAME
+        || before == QUALIFIED
+        || before == CLOSE_PAREN
+        || before == CLOSE_BRACE
+        || before == ACCESS
 }
 
 fn name_class(before: u8, text: &[u8]) -> u8

@@ -20,9 +20,11 @@ steps-smaller-in-Some-pop c =
     c.in-Some-pop.ensures.items
 
 pub steps-preserved-in-Some-pop : goal.steps-preserved-in-Some-pop
-steps-preserved-in-Some-pop c =
-    (running_closed c.steps.invariant.0 c.in-Some-pop.frame c.pop.new.self.items c.in-None.ensures
-    c.in-Some-pop.ensures.items, c.steps.invariant.1)
+steps-preserved-in-Some-pop c = (
+  running_closed c.steps.invariant.0 c.in-Some-pop.frame c.pop.new.self.items c.in-None.ensures
+      c.in-Some-pop.ensures.items,
+  c.steps.invariant.1,
+)
 
 pub returns-in-None-pop : goal.returns-in-None-pop
 returns-in-None-pop c =
