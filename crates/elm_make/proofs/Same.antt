@@ -6,7 +6,7 @@ use Rattle.first_canon.specs.Tree.{Project}
 use Rattle.first_compile.specs.Made.{Result, Made}
 use Rattle.first_compile.proofs.Same.{same_made}
 use Rattle.elm_make.specs.Paths.{normal_path, is_absolute, is_output, is_entry}
-use Rattle.elm_make.specs.Clean.{Outcome, Text, start_line, text_within, Folded, no_module, one_module, IsJoined, linked, IsFoldOf, IsBuiltFrom, Clean}
+use Rattle.elm_make.specs.BuildsTo.{Outcome, Text, start_line, text_within, Folded, no_module, one_module, IsJoined, linked, IsFoldOf, IsBuiltFrom, BuildsTo}
 use Rattle.elm_make.proofs.Folds.{folded_one}
 use Rattle.elm_make.proofs.Steps.{steps_same}
 
@@ -34,8 +34,8 @@ built_same : (file : Option (List ℕ)) (path : List ℕ) (a b : Outcome) → Is
 built_same None path a b f g = f ∙ sym g
 built_same (Some text) path a b f g = fold_same path (text_within text) a b f g
 
-pub same_clean : (tree : Tree) (entry output : List ℕ) (a b : Outcome) → Clean tree entry output a → Clean tree entry output b → a ≡ b
-same_clean tree entry output a b =
+pub same_outcome : (tree : Tree) (entry output : List ℕ) (a b : Outcome) → BuildsTo tree entry output a → BuildsTo tree entry output b → a ≡ b
+same_outcome tree entry output a b =
     let file = tree (normal_path entry) in
     steps_same (is_absolute output) (is_output (normal_path output)) (is_absolute entry) (is_entry (normal_path entry))
     (start_line BadOutput output) (start_line EntryNotFound entry) (start_line EntryNotFound (normal_path entry)) (start_line BadOutput (normal_path output)) a b

@@ -1,7 +1,7 @@
 -- The steps of a build that may refuse, one after the other.
 use Rattle.std.proofs.Common.{◌≡◌, ℕ, List, Bool, true, false, sym, ◌∙◌}
 use Rattle.std.specs.Prelude.{MatchBool}
-use Rattle.elm_make.specs.Clean.{Outcome, Stopped, Text}
+use Rattle.elm_make.specs.BuildsTo.{Outcome, Stopped, Text}
 
 -- an outcome by four tests: refusals with these lines, or what the last step allows
 abbrev pub Steps : (a b c d : Bool) (j k l m : List ℕ) → Type 0 → Outcome → Type 0

@@ -18,7 +18,7 @@ use Rattle.first_compile.specs.Made.{Result, Good, NotYet, Made, too_long}
 use Rattle.first_compile.proofs.Accepted.{for_good, accepted_subset, accepted_ruled, accepted_meaning}
 use Rattle.first_compile.proofs.Same.{same_made}
 use Rattle.elm_make.specs.Paths.{normal_path, is_absolute, is_output, is_entry}
-use Rattle.elm_make.specs.Clean.{Faulty, Text, start_line, text_within, fault_lines, IsJoined, linked, IsBuiltFrom, Clean}
+use Rattle.elm_make.specs.BuildsTo.{Faulty, Text, start_line, text_within, fault_lines, IsJoined, linked, IsBuiltFrom, BuildsTo}
 use Rattle.elm_make.specs.Translated.{IsTextOfOne, AreInputs, Translates, IsTranslation}
 use Rattle.elm_make.proofs.Same.{of_one}
 use Rattle.elm_make.proofs.Steps.{steps_text, never_stopped}
@@ -76,8 +76,8 @@ built_translated : (file : Option (List ℕ)) (path bytes : List ℕ) → IsBuil
 built_translated None path bytes f = never_stopped bytes (start_line EntryNotFound path) f
 built_translated (Some text) path bytes f = of_one path (text_within text) (Text bytes) f (joined_translated text path bytes)
 
-pub clean_translated : (tree : Tree) (entry output bytes : List ℕ) → Clean tree entry output (Text bytes) → IsTranslation (tree (normal_path entry)) bytes
-clean_translated tree entry output bytes h =
+pub text_translated : (tree : Tree) (entry output bytes : List ℕ) → BuildsTo tree entry output (Text bytes) → IsTranslation (tree (normal_path entry)) bytes
+text_translated tree entry output bytes h =
     let file = tree (normal_path entry) in
     built_translated file (normal_path entry) bytes
     (steps_text (is_absolute output) (is_output (normal_path output)) (is_absolute entry) (is_entry (normal_path entry))

@@ -21,7 +21,7 @@ take_all : (a : List ℕ) → take (length a) a ≡ a
 take_all [] = refl
 take_all (c ∷ a) = ap (λ x. c ∷ x) (take_all a)
 
-longer_nil : (old : Option (List ℕ)) → longer old [] ≡ old
+pub longer_nil : (old : Option (List ℕ)) → longer old [] ≡ old
 longer_nil None = refl
 longer_nil (Some text) = ap Some (append-nil text)
 

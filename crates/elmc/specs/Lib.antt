@@ -1,3 +1,5 @@
-pub mod Make
-pub mod Run
+pub mod Outside
+pub mod Effect
 pub mod Causes
+pub mod Report
+pub mod Promise

@@ -1,4 +1,4 @@
--- Clean: the outcome of a build, as a fold over the modules in import order. It speaks only of the files and the words.
+-- The outcome of a build, as a fold over the modules in import order. It speaks only of the files and the words.
 use Rattle.std.specs.Prelude.{◌≡◌, ℕ, List, [], ◌∷◌, ◌++◌, MatchBool, if◌then◌else◌, Option, Some, None, nat_le, length, codes}
 use Rattle.elm_base.specs.declared.fault.Code.{Code}
 use Rattle.elm_base.specs.declared.fault.Code.TheVariants.{BadOutput, EntryNotFound, NotYet as not_yet}
@@ -70,6 +70,10 @@ outcome_for path None = Faulty (start_line not_yet path)
 abbrev pub IsFoldOf : List (List ℕ × Option (List ℕ)) → Outcome → Type 0
 IsFoldOf sources outcome = (results : List (List ℕ × Result)) × Folded sources results × IsJoined (linked results) results outcome
 
+-- one module, at this path and with this text
+abbrev pub one_source : List ℕ → List ℕ → List (List ℕ × Option (List ℕ))
+one_source path text = (path, Some text) ∷ []
+
 -- the entry at this path, if it is there; today it is the only module
 abbrev pub IsBuiltFrom : Option (List ℕ) → List ℕ → Outcome → Type 0
 IsBuiltFrom None path outcome = outcome ≡ Stopped (start_line EntryNotFound path)
@@ -77,8 +81,8 @@ IsBuiltFrom (Some text) path outcome = IsFoldOf ((path, text_within text) ∷ []
 
 -- the first step that refuses something ends the build: the path of the output, the path of the entry, the entry, the
 -- modules
-abbrev pub Clean : Tree → List ℕ → List ℕ → Outcome → Type 0
-Clean tree entry output outcome =
+abbrev pub BuildsTo : Tree → List ℕ → List ℕ → Outcome → Type 0
+BuildsTo tree entry output outcome =
     MatchBool (is_absolute output) (outcome ≡ Stopped (start_line BadOutput output))
     (MatchBool (is_output (normal_path output))
     (MatchBool (is_absolute entry) (outcome ≡ Stopped (start_line EntryNotFound entry))
@@ -87,6 +91,6 @@ Clean tree entry output outcome =
     (outcome ≡ Stopped (start_line EntryNotFound (normal_path entry)))))
     (outcome ≡ Stopped (start_line BadOutput (normal_path output))))
 
--- the line of a finished build
+-- the line of a finished build, whose output is at this path
 abbrev pub compiled_line : List ℕ → List ℕ
-compiled_line output = codes "compiled to " ++ (normal_path output ++ codes ", modules: 1\n")
+compiled_line path = codes "compiled to " ++ (path ++ codes ", modules: 1\n")

@@ -1,0 +1,5 @@
+use Rattle.elm_make.proofs.Same.{same_outcome}
+use Rattle.elm_make.proofs.laws.outcome_law.Goals as goal
+
+pub returns : goal.returns
+returns c = same_outcome
