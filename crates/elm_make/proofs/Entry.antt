@@ -21,12 +21,12 @@ text_over_limit text long = ap (λ b. if b then Some text else None) (lt-leb (le
 
 -- a file that was read gives what the fold over its text gives
 pub read_built : (file : Option (List ℕ)) (path : List ℕ) (bytes : Vec ℕ Global) (got : Got) → got ≡ Bytes bytes →
-  IsReadOf file 4194304 got → (outcome : Outcome) → IsOnly (IsFoldOf (one_source path bytes.items)) outcome →
-  IsOnly (IsBuiltFrom file path) outcome
+    IsReadOf file 4194304 got → (outcome : Outcome) → IsOnly (IsFoldOf (one_source path bytes.items)) outcome →
+    IsOnly (IsBuiltFrom file path) outcome
 read_built file path bytes got is read outcome fold =
     let found : IsReadOf file 4194304 (Bytes bytes) = subst (λ g. IsReadOf file 4194304 g) is read in
     let within : IsOnly (IsBuiltFrom (Some bytes.items) path) outcome =
-      subst (λ text. IsOnly (IsFoldOf ((path, text) ∷ [])) outcome) (sym (text_within_limit bytes.items found.1)) fold in
+    subst (λ text. IsOnly (IsFoldOf ((path, text) ∷ [])) outcome) (sym (text_within_limit bytes.items found.1)) fold in
     subst (λ f. IsOnly (IsBuiltFrom f path) outcome) (sym found.0) within
 
 -- a module over the limit has faults, and is nothing else
@@ -34,7 +34,7 @@ only_faulty : (made : Result) → Made None made → made ≡ NotYet
 only_faulty made too_long = refl
 
 over_limit_built : (file : Option (List ℕ)) (path : List ℕ) → IsSomeAnd file (λ text. 4194304 < length text) →
-  IsOnly (IsBuiltFrom file path) (Faulty (start_line not_yet path))
+    IsOnly (IsBuiltFrom file path) (Faulty (start_line not_yet path))
 over_limit_built None path long = absurd long
 over_limit_built (Some text) path long =
     subst (λ t. IsOnly (IsFoldOf ((path, t) ∷ [])) (Faulty (start_line not_yet path))) (sym (text_over_limit text long))
@@ -42,5 +42,5 @@ over_limit_built (Some text) path long =
 
 -- a file that is too long gives the fault of its module
 pub too_long_built : (file : Option (List ℕ)) (path : List ℕ) (got : Got) → got ≡ TooLong →
-  IsReadOf file 4194304 got → IsOnly (IsBuiltFrom file path) (Faulty (start_line not_yet path))
+    IsReadOf file 4194304 got → IsOnly (IsBuiltFrom file path) (Faulty (start_line not_yet path))
 too_long_built file path got is read = over_limit_built file path (subst (λ g. IsReadOf file 4194304 g) is read)

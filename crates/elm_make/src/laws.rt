@@ -8,16 +8,12 @@ ghost use Rattle.elm_make.specs.Translated.{IsTranslation};
 
 /// The files and the words have at most one outcome.
 pub fn outcome_law()
-    ensures {
-        (tree : Tree) (entry output : List ℕ) (a b : Outcome) →
-        BuildsTo tree entry output a → BuildsTo tree entry output b → a ≡ b
-    }
+    ensures { (tree : Tree) (entry output : List ℕ) (a b : Outcome) →
+        BuildsTo tree entry output a → BuildsTo tree entry output b → a ≡ b }
 {}
 
 /// The text that a build gives is the translation of its entry.
 pub fn translation_law()
-    ensures {
-        (tree : Tree) (entry output bytes : List ℕ) →
-        BuildsTo tree entry output (Text bytes) → IsTranslation (tree (normal_path entry)) bytes
-    }
+    ensures { (tree : Tree) (entry output bytes : List ℕ) →
+        BuildsTo tree entry output (Text bytes) → IsTranslation (tree (normal_path entry)) bytes }
 {}

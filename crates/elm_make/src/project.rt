@@ -5,7 +5,8 @@ ghost use Rattle.elm_base.specs.declared.fault.Code.TheVariants.{NotYet as not_y
 ghost use Rattle.elm_files.specs.Answers.{NoneFull};
 ghost use Rattle.elm_files.specs.States.{files_state};
 ghost use Rattle.elm_make.specs.BuildsTo as plain;
-ghost use Rattle.elm_make.specs.BuildsTo.{BuildsTo, IsBuiltFrom, IsFoldOf, modules_of, one_source, outcome_for, start_line};
+ghost use Rattle.elm_make.specs.BuildsTo.{BuildsTo, IsBuiltFrom, IsFoldOf, modules_of, one_source};
+ghost use Rattle.elm_make.specs.BuildsTo.{outcome_for, start_line};
 ghost use Rattle.elm_make.specs.End.{HasOutcome, IsBuilt, IsEndAt, IsFailureTold, IsOnly};
 ghost use Rattle.elm_make.specs.Paths.{normal_path};
 ghost use Rattle.elm_make.specs.View.{built_view, text_view};
@@ -97,9 +98,8 @@ pub fn build<R: Threads + Wait + Sync, F: Files, G: Gate + Sync>(
     ensures outcome { HasOutcome (F.tree files.old) (λ tree. BuildsTo tree entry.now output.now) result }
 
     // What the build leaves and reports, with an outcome or without one.
-    ensures built {
-        IsBuilt (normal_path output.now) result (files_state F.Files files.old) (files_state F.Files files.new)
-    }
+    ensures built { IsBuilt (normal_path output.now) result
+        (files_state F.Files files.old) (files_state F.Files files.new) }
 {
     let file = normal(alloc, output)?;
     if is_absolute(output) {
@@ -165,10 +165,8 @@ fn build_text<F: Files, G: Gate>(
 /// The text of the program of a module, or none if the module is not accepted.
 fn program_text(alloc: Global, text: &[u8]) -> Result<Option<Vec<u8>>, AllocError>
     requires { length text.now ≤ 4194304 }
-    ensures {
-        IfOk result (λ program. (path : List ℕ) →
-            IsOnly (IsFoldOf (one_source path text.now)) (outcome_for path (text_view program)))
-    }
+    ensures { IfOk result (λ program. (path : List ℕ) →
+        IsOnly (IsFoldOf (one_source path text.now)) (outcome_for path (text_view program))) }
 {
     match compile(alloc, text)? {
         Made::Good(project) => {

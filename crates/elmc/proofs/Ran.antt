@@ -1,5 +1,6 @@
 -- A run keeps the promise by each way in which it ends: its outcome settles the effect.
-use Rattle.std.proofs.Common.{◌≡◌, ◌<◌, ◌∙◌, ℕ, List, Bool, true, false, Option, Some, ap, arith, inl, inr, refl, subst, sym}
+use Rattle.std.proofs.Common.{◌≡◌, ◌<◌, ◌∙◌, ℕ, List, Bool, true, false, Option, Some}
+use Rattle.std.proofs.Common.{ap, arith, inl, inr, refl, subst, sym}
 use Rattle.std.specs.Prelude.{◌⊎◌, if◌then◌else◌}
 use Rattle.std.specs.declared.vec.Vec.{Vec}
 use Rattle.std.specs.declared.alloc.Global.{Global}
@@ -24,24 +25,24 @@ use Rattle.elmc.proofs.Settled.{IsSettled, run_settled}
 
 -- the outcome of the run, which is this, settles the effect
 outcome_settled : (program inputs : List ℕ) (fuel : ℕ) (tree : Option Tree) (out out' : Option (List ℕ)) (end : Ended) →
-  (r : IsRun tree program inputs fuel out out' end) (outcome : Outcome) → r.outcome ≡ outcome →
-  IsSettled (Some (run program inputs fuel)) tree (run_effect tree outcome)
+    (r : IsRun tree program inputs fuel out out' end) (outcome : Outcome) → r.outcome ≡ outcome →
+    IsSettled (Some (run program inputs fuel)) tree (run_effect tree outcome)
 outcome_settled program inputs fuel tree out out' end r outcome e =
     subst (λ o. IsSettled (Some (run program inputs fuel)) tree (run_effect tree o)) e
     (run_settled program inputs fuel tree r.outcome r.found r.only)
 
 -- the status of a run, by whether every input was given
-same_status : (ready wanted : Bool) → ready ≡ wanted → (if wanted then 0 else 1) ≡ (if ready then 0 else 1)
-same_status ready wanted e = ap (λ (b : Bool). if b then 0 else 1) (sym e)
+abbrev run_status : Bool → ℕ
+run_status ready = if ready then 0 else 1
 
-low_status : (ready : Bool) → (if ready then 0 else 1) < 3
+low_status : (ready : Bool) → run_status ready < 3
 low_status true = omega arith
 low_status false = omega arith
 
 module _ (program inputs : List ℕ) (fuel : ℕ) (old new : Outside) (tree : new.files.tree ≡ old.files.tree) where
   -- a beginning of the text of the run is put
   put_part : IsRunInPart old.files.tree program inputs fuel old.out.text new.out.text →
-    HasPrinted (Some (run program inputs fuel)) old new
+      HasPrinted (Some (run program inputs fuel)) old new
   put_part part = record {
     effect = run_effect old.files.tree (Ran part.trace);
     given = (Ran part.trace, part.found, refl);
@@ -51,8 +52,8 @@ module _ (program inputs : List ℕ) (fuel : ℕ) (old new : Outside) (tree : ne
 
   -- the sink failed
   pub sink_failed : old.out.faults < new.out.faults → new.files.faults ≡ old.files.faults →
-    IsRunInPart old.files.tree program inputs fuel old.out.text new.out.text → new.err.text ≡ old.err.text →
-    KeepsPromise (Some (run program inputs fuel)) 3 old new
+      IsRunInPart old.files.tree program inputs fuel old.out.text new.out.text → new.err.text ≡ old.err.text →
+      KeepsPromise (Some (run program inputs fuel)) 3 old new
   sink_failed rose no_file part err =
       at_failure (Some (run program inputs fuel)) 3 old new refl (out_rose rose)
       (λ rose. absurd (none_rose old.files.faults new.files.faults no_file rose)) (λ _. inl err) (inr (put_part part))
@@ -60,27 +61,30 @@ module _ (program inputs : List ℕ) (fuel : ℕ) (old new : Outside) (tree : ne
 
   -- memory ran out
   pub out_of_memory : (status : ℕ) → status ≡ 4 → LongerByPart old.err.text memory_line new.err.text →
-    new.files.faults ≡ old.files.faults → new.out.faults ≡ old.out.faults →
-    (new.out.text ≡ old.out.text) ⊎ IsRunInPart old.files.tree program inputs fuel old.out.text new.out.text →
-    KeepsPromise (Some (run program inputs fuel)) status old new
+      new.files.faults ≡ old.files.faults → new.out.faults ≡ old.out.faults →
+      (new.out.text ≡ old.out.text) ⊎ IsRunInPart old.files.tree program inputs fuel old.out.text new.out.text →
+      KeepsPromise (Some (run program inputs fuel)) status old new
   out_of_memory status is told no_file no_out part =
       at_memory (Some (run program inputs fuel)) status old new is told no_file no_out (on_out part)
       (unchanged (Some (run program inputs fuel)) old.files.tree new.files.tree tree) (inl tree)
     where
-      on_out : (new.out.text ≡ old.out.text) ⊎ IsRunInPart old.files.tree program inputs fuel old.out.text new.out.text →
-        (new.out.text ≡ old.out.text) ⊎ HasPrinted (Some (run program inputs fuel)) old new
+      on_out :
+          (new.out.text ≡ old.out.text) ⊎ IsRunInPart old.files.tree program inputs fuel old.out.text new.out.text →
+          (new.out.text ≡ old.out.text) ⊎ HasPrinted (Some (run program inputs fuel)) old new
       on_out (inl same) = inl same
       on_out (inr part) = inr (put_part part)
 
-  module _ (e : Ended) (r : IsRun old.files.tree program inputs fuel old.out.text new.out.text e) (no_file : new.files.faults ≡ old.files.faults) (no_out : new.out.faults ≡ old.out.faults) where
+  module _
+      (e : Ended) (r : IsRun old.files.tree program inputs fuel old.out.text new.out.text e)
+      (no_file : new.files.faults ≡ old.files.faults) (no_out : new.out.faults ≡ old.out.faults) where
     -- the text of the run is put, and says whether every input was given
     told : (ready : Bool) (trace : Trace) → r.outcome ≡ Ran trace → is_ready trace ≡ ready →
-      new.out.text ≡ longer old.out.text (told_text trace) → new.err ≡ old.err →
-      KeepsPromise (Some (run program inputs fuel)) (if ready then 0 else 1) old new
+        new.out.text ≡ longer old.out.text (told_text trace) → new.err ≡ old.err →
+        KeepsPromise (Some (run program inputs fuel)) (run_status ready) old new
     told ready trace is ends out quiet =
-        whole (Some (run program inputs fuel)) (if ready then 0 else 1) old new (run_effect old.files.tree (Ran trace))
+        whole (Some (run program inputs fuel)) (run_status ready) old new (run_effect old.files.tree (Ran trace))
         (outcome_settled program inputs fuel old.files.tree old.out.text new.out.text e r (Ran trace) is)
-        (same_status (is_ready trace) ready ends) (low_status (is_ready trace)) out
+        (ap run_status (sym ends)) (low_status (is_ready trace)) out
         (ap (λ s. s.text) quiet ∙ sym (longer_nil old.err.text)) tree
         (unchanged (Some (run program inputs fuel)) old.files.tree new.files.tree tree) no_file no_out
         (ap (λ s. s.faults) quiet)
@@ -97,7 +101,7 @@ module _ (program inputs : List ℕ) (fuel : ℕ) (old new : Outside) (tree : ne
 
     -- there is no run, and its line is put on standard error
     pub refused : (line : Vec ℕ Global) → e ≡ ended.Refused line → (status : ℕ) →
-      Says line.items 1 old.err new.err status → KeepsPromise (Some (run program inputs fuel)) status old new
+        Says line.items 1 old.err new.err status → KeepsPromise (Some (run program inputs fuel)) status old new
     refused line is status said =
         let says = subst (λ x. end.Says x r.outcome old.out.text new.out.text) is r.says in
         by_saying (Some (run program inputs fuel)) old new 1 line.items (omega arith)

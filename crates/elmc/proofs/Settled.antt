@@ -20,15 +20,15 @@ pub record IsSettled (asked : Option Command) (tree : Option Tree) (effect : Eff
 
 -- words that ask for nothing
 pub nothing_settled : (asked : Option Command) (tree : Option Tree) → asked ≡ None →
-  IsSettled asked tree (complaint 2 USAGE.now tree)
+    IsSettled asked tree (complaint 2 USAGE.now tree)
 nothing_settled asked tree none =
     subst (λ a. IsSettled a tree (complaint 2 USAGE.now tree)) (sym none)
     (record { given = refl; only = λ other known has. has })
 
 -- `make`
 pub build_settled : (entry output : List ℕ) (jobs : ℕ) (tree : Option Tree) (outcome : Outcome) →
-  IfSome tree (λ files. IsOnly (BuildsTo files entry output) outcome) →
-  IsSettled (Some (make entry output jobs)) tree (build_effect (normal_path output) tree outcome)
+    IfSome tree (λ files. IsOnly (BuildsTo files entry output) outcome) →
+    IsSettled (Some (make entry output jobs)) tree (build_effect (normal_path output) tree outcome)
 build_settled entry output jobs None outcome h = record {
   given = (outcome, tt, refl);
   only = λ other known has. absurd cc;
@@ -40,9 +40,9 @@ build_settled entry output jobs (Some files) outcome h = record {
 
 -- `run`
 pub run_settled : (program inputs : List ℕ) (fuel : ℕ) (tree : Option Tree) (outcome : runs.Outcome) →
-  IfSome tree (λ files. RunsTo files program inputs fuel outcome) →
-  IfSome tree (λ files. (other : runs.Outcome) → RunsTo files program inputs fuel other → other ≡ outcome) →
-  IsSettled (Some (run program inputs fuel)) tree (run_effect tree outcome)
+    IfSome tree (λ files. RunsTo files program inputs fuel outcome) →
+    IfSome tree (λ files. (other : runs.Outcome) → RunsTo files program inputs fuel other → other ≡ outcome) →
+    IsSettled (Some (run program inputs fuel)) tree (run_effect tree outcome)
 run_settled program inputs fuel None outcome found only = record {
   given = (outcome, tt, refl);
   only = λ other known has. absurd cc;

@@ -54,8 +54,8 @@ IsKnown None tree = Unit {0}
 -- each text that the files give for `make` is the translation of its entry
 abbrev pub Means : Option Command → Option Tree → Type 0
 Means (Some (make entry output jobs)) tree =
-    IfSome tree
-    (λ files. (text : List ℕ) → BuildsTo files entry output (Text text) → IsTranslation (files (normal_path entry)) text)
+    IfSome tree (λ files. (text : List ℕ) →
+    BuildsTo files entry output (Text text) → IsTranslation (files (normal_path entry)) text)
 Means (Some (run program inputs fuel)) tree = Unit {0}
 Means None tree = Unit {0}
 
@@ -79,7 +79,7 @@ pub record KeepsPromise (asked : Option Command) (status : ℕ) (old new : Outsi
   pub names_file : SomeRose old.files.faults new.files.faults → TellsFile old new
   -- otherwise, with status 3, it has nothing new, or a beginning of what the effect puts there
   pub on_err : status ≡ 3 → new.files.faults ≡ old.files.faults →
-    (new.err.text ≡ old.err.text) ⊎ HasComplained asked old new
+      (new.err.text ≡ old.err.text) ⊎ HasComplained asked old new
   -- standard output has nothing new, or a beginning of what the effect puts there, and then the files are written
   pub on_out : (new.out.text ≡ old.out.text) ⊎ HasPrinted asked old new
   -- no file changes but the output of `make`
@@ -88,6 +88,6 @@ pub record KeepsPromise (asked : Option Command) (status : ℕ) (old new : Outsi
   pub kept : new.files.faults ≡ old.files.faults → (new.files.tree ≡ old.files.tree) ⊎ HasWritten asked old new
   -- the status is that of each effect that the words and the files have, unless it is 3 or 4
   pub complete : (effect : Effect) → IsKnown asked old.files.tree → HasEffect asked old.files.tree effect →
-    status ≢ effect.status → IsEither status 3 4
+      status ≢ effect.status → IsEither status 3 4
   -- a text that the files give means what the module means
   pub meaning : Means asked old.files.tree

@@ -14,7 +14,8 @@ pub data Says (lines : List ℕ) (status : ℕ) (old new : SinkState) : ℕ → 
 -- this line is put on standard output, with status 0; standard error changes only to report out of memory
 pub data Prints (line : List ℕ) (out out' err err' : SinkState) : ℕ → Type 0 where
   all_printed : out'.text ≡ longer out.text line → out'.faults ≡ out.faults → err' ≡ err →
-    Prints line out out' err err' 0
+      Prints line out out' err err' 0
   part_printed : LongerByPart out.text line out'.text → out.faults < out'.faults → err' ≡ err →
-    Prints line out out' err err' 3
-  none_printed : out' ≡ out → LongerByPart err.text memory_line err'.text → Prints line out out' err err' 4
+      Prints line out out' err err' 3
+  none_printed : out'.text ≡ out.text → out'.faults ≡ out.faults → LongerByPart err.text memory_line err'.text →
+      Prints line out out' err err' 4

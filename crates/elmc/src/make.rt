@@ -33,11 +33,9 @@ pub fn make_program<R: Threads + Wait + Sync, F: Files, O: Sink, E: Sink, G: Gat
     requires files { NoneFull (F.faults files.old) }
     requires out { O.faults out.old < 18446744073709551615 }
     requires err { E.faults err.old < 18446744073709551615 }
-    ensures {
-        KeepsPromise (Some (make entry.now output.now jobs)) result
+    ensures { KeepsPromise (Some (make entry.now output.now jobs)) result
         (outside F.Files O.Sink E.Sink files.old out.old err.old)
-        (outside F.Files O.Sink E.Sink files.new out.new err.new)
-    }
+        (outside F.Files O.Sink E.Sink files.new out.new err.new) }
 {
     match build(rt, alloc, files, entry, output, jobs, gate) {
         Ok(built) => match &built.outcome {

@@ -13,11 +13,9 @@ use elm_files::{FileError, Sink};
 /// Prints a line on `out`, and returns 0; 3 if that fails, and 4 if memory runs out.
 pub fn printed<O: Sink, E: Sink>(out: &mut O, err: &mut E, line: &[u8]) -> u8
     requires { O.faults out.old < 18446744073709551615 }
-    ensures {
-        Prints line.now
+    ensures { Prints line.now
         (sink_state O.Sink out.old) (sink_state O.Sink out.new)
-        (sink_state E.Sink err.old) (sink_state E.Sink err.new) result
-    }
+        (sink_state E.Sink err.old) (sink_state E.Sink err.new) result }
 {
     match out.put(line) {
         Ok(()) => 0,

@@ -29,11 +29,9 @@ pub fn run_program<F: Files, O: Sink, E: Sink>(
     requires files { NoneFull (F.faults files.old) }
     requires out { O.faults out.old < 18446744073709551615 }
     requires err { E.faults err.old < 18446744073709551615 }
-    ensures {
-        KeepsPromise (Some (command.run program.now inputs.now fuel)) result
+    ensures { KeepsPromise (Some (command.run program.now inputs.now fuel)) result
         (outside F.Files O.Sink E.Sink files.old out.old err.old)
-        (outside F.Files O.Sink E.Sink files.new out.new err.new)
-    }
+        (outside F.Files O.Sink E.Sink files.new out.new err.new) }
 {
     match run(alloc, files, out, program, inputs, fuel) {
         Ok(Ended::Ready) => 0,

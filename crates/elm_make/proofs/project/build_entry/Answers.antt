@@ -14,18 +14,18 @@ returns-in-Ok-Bytes-clause-outcome g c =
     let told = g.F.Files.tree c.args.files.now in
     let bytes = c.in-Ok-Bytes.text in
     let same : c.deref.result.now ≡ bytes.items =
-      c.deref.ensures.value ∙ ap (λ bytes. bytes.items) c.in-Ok-Bytes.text-is in
+    c.deref.ensures.value ∙ ap (λ bytes. bytes.items) c.in-Ok-Bytes.text-is in
     IfOk-weaker c.build_text.result
     (λ built. IsOnly (IsFoldOf (one_source path c.deref.result.now)) (built_view built))
     (λ built. IfSome told (λ tree. IsOnly (IsBuiltFrom (tree path) path) (built_view built)))
     (λ built fold. IfSome_then told c.in-Ok-Bytes.ensures.answer (λ tree read.
-      read_built (tree path) path bytes c.in-Ok-Bytes.field-0 c.in-Ok-Bytes.field-0-is read (built_view built)
-      (subst (λ text. IsOnly (IsFoldOf (one_source path text)) (built_view built)) same fold)))
+    read_built (tree path) path bytes c.in-Ok-Bytes.field-0 c.in-Ok-Bytes.field-0-is read (built_view built)
+    (subst (λ text. IsOnly (IsFoldOf (one_source path text)) (built_view built)) same fold)))
     c.build_text.ensures.outcome
 
 pub returns-in-Ok-TooLong-clause-outcome : goal.returns-in-Ok-TooLong-clause-outcome
 returns-in-Ok-TooLong-clause-outcome g c =
     let path = c.args.source.now in
     IfSome_then (g.F.Files.tree c.args.files.now) c.in-Ok-TooLong.ensures.answer (λ tree read.
-      subst (λ outcome. IsOnly (IsBuiltFrom (tree path) path) outcome) (sym c.in_ok-refused-in-Ok-TooLong.ensures.outcome)
-      (too_long_built (tree path) path c.in-Ok-TooLong.field-0 c.in-Ok-TooLong.field-0-is read))
+    subst (λ outcome. IsOnly (IsBuiltFrom (tree path) path) outcome) (sym c.in_ok-refused-in-Ok-TooLong.ensures.outcome)
+    (too_long_built (tree path) path c.in-Ok-TooLong.field-0 c.in-Ok-TooLong.field-0-is read))

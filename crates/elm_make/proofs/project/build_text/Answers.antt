@@ -13,7 +13,7 @@ returns-in-Some-clause-outcome g c =
     IfOk-weaker c.write_text.result (λ built. built_view built ≡ Text c.in-Some.program.items)
     (λ built. IsOnly (IsFoldOf source) (built_view built))
     (λ built e. subst (λ outcome. IsOnly (IsFoldOf source) outcome)
-      (ap (λ p. outcome_for path (text_view p)) c.in-Some.is ∙ sym e) (c.in_ok-program.ensures path))
+    (ap (λ p. outcome_for path (text_view p)) c.in-Some.is ∙ sym e) (c.in_ok-program.ensures path))
     c.write_text.ensures.text
 
 pub returns-in_ok-refused-in-None-clause-outcome : goal.returns-in_ok-refused-in-None-clause-outcome

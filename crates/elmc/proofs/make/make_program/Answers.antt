@@ -12,7 +12,7 @@ returns-in-Text g c =
     built.text_written c.args.entry.now c.args.output.now c.args.jobs old new c.in-Ok.built
     c.in-Ok.ensures.outcome c.in-Ok.ensures.built c.in-Text.field-0 c.in-Text.is c.printed.result
     (subst (λ line. Prints line old.out new.out old.err new.err c.printed.result) c.deref.ensures.value
-      c.printed.ensures)
+    c.printed.ensures)
 
 pub returns-in-Ok : goal.returns-in-Ok
 returns-in-Ok g c =
@@ -30,8 +30,8 @@ returns-in-Err-File g c =
     c.in-Err-File.ensures.built refl c.in-Err-File.path c.in-Err-File.field-0-is c.file_failed.result
     c.file_failed.ensures.status c.file_failed.ensures.told
 
-pub returns-in-Err-NoMemory : goal.returns-in-Err-NoMemory
-returns-in-Err-NoMemory g c =
+pub returns : goal.returns
+returns g c =
     let old = outside g.F.Files g.O.Sink g.E.Sink c.args.files.now c.args.out.now c.args.err.now in
     let new = outside g.F.Files g.O.Sink g.E.Sink c.build.new.files c.args.out.now c.out_of_memory.new.err in
     built.out_of_memory c.args.entry.now c.args.output.now c.args.jobs old new c.in-Err-NoMemory.field-0

@@ -13,21 +13,21 @@ use Rattle.elmc.proofs.program.top.Goals as goal
 pub returns-in-Some-Make : goal.returns-in-Some-Make
 returns-in-Some-Make g c =
     let asked = c.in-Some-Make in
-    let asks : Some (make asked.entry.now asked.output.now asked.jobs) ≡ command_line (map string_bytes c.args.words.now) =
-      search rules in
+    let words = map string_bytes c.args.words.now in
+    let asks : Some (make asked.entry.now asked.output.now asked.jobs) ≡ command_line words = search rules in
     subst (λ command. KeepsPromise command c.make_program.result
-      (outside g.F.Files g.O.Sink g.E.Sink c.args.files.now c.args.out.now c.args.err.now)
-      (outside g.F.Files g.O.Sink g.E.Sink c.make_program.new.files c.make_program.new.out c.make_program.new.err))
+    (outside g.F.Files g.O.Sink g.E.Sink c.args.files.now c.args.out.now c.args.err.now)
+    (outside g.F.Files g.O.Sink g.E.Sink c.make_program.new.files c.make_program.new.out c.make_program.new.err))
     asks c.make_program.ensures
 
 pub returns-in-Some-Run : goal.returns-in-Some-Run
 returns-in-Some-Run g c =
     let asked = c.in-Some-Run in
-    let asks : Some (run asked.program.now asked.inputs.now asked.fuel) ≡ command_line (map string_bytes c.args.words.now) =
-      search rules in
+    let words = map string_bytes c.args.words.now in
+    let asks : Some (run asked.program.now asked.inputs.now asked.fuel) ≡ command_line words = search rules in
     subst (λ command. KeepsPromise command c.run_program.result
-      (outside g.F.Files g.O.Sink g.E.Sink c.args.files.now c.args.out.now c.args.err.now)
-      (outside g.F.Files g.O.Sink g.E.Sink c.run_program.new.files c.run_program.new.out c.run_program.new.err))
+    (outside g.F.Files g.O.Sink g.E.Sink c.args.files.now c.args.out.now c.args.err.now)
+    (outside g.F.Files g.O.Sink g.E.Sink c.run_program.new.files c.run_program.new.out c.run_program.new.err))
     asks c.run_program.ensures
 
 pub returns-in-None : goal.returns-in-None

@@ -40,10 +40,11 @@ returns-in-Err-File g c =
     let asked = Some (run c.args.program.now c.args.inputs.now c.args.fuel) in
     by_file_failure asked old new c.in-Err-File.path c.file_failed.result c.file_failed.ensures.status
     (subst (λ e. HasCause e old.files.faults new.files.faults old.out.faults new.out.faults) c.in-Err-File.field-0-is
-      c.in-Err-File.ensures.cause)
+    c.in-Err-File.ensures.cause)
     c.file_failed.ensures.told
-    (subst (λ e. LeavesAtEnd e old.files.tree c.args.program.now c.args.inputs.now c.args.fuel old.out.text new.out.text)
-      c.in-Err-File.field-0-is c.in-Err-File.ensures.part)
+    (subst
+    (λ e. LeavesAtEnd e old.files.tree c.args.program.now c.args.inputs.now c.args.fuel old.out.text new.out.text)
+    c.in-Err-File.field-0-is c.in-Err-File.ensures.part)
     (unchanged asked old.files.tree new.files.tree c.run.ensures.keeps)
 
 pub returns-in-Err-Sink : goal.returns-in-Err-Sink
@@ -52,11 +53,12 @@ returns-in-Err-Sink g c =
     let new = outside g.F.Files g.O.Sink g.E.Sink c.run.new.files c.run.new.out c.args.err.now in
     ran.sink_failed c.args.program.now c.args.inputs.now c.args.fuel old new c.run.ensures.keeps
     (subst (λ e. HasCause e old.files.faults new.files.faults old.out.faults new.out.faults) c.in-Err-Sink.field-0-is
-      c.in-Err-Sink.ensures.cause)
+    c.in-Err-Sink.ensures.cause)
     (subst (λ e. IsToldIfRose e old.files.faults new.files.faults old.out.faults new.out.faults)
-      c.in-Err-Sink.field-0-is c.in-Err-Sink.ensures.told)
-    (subst (λ e. LeavesAtEnd e old.files.tree c.args.program.now c.args.inputs.now c.args.fuel old.out.text new.out.text)
-      c.in-Err-Sink.field-0-is c.in-Err-Sink.ensures.part)
+    c.in-Err-Sink.field-0-is c.in-Err-Sink.ensures.told)
+    (subst
+    (λ e. LeavesAtEnd e old.files.tree c.args.program.now c.args.inputs.now c.args.fuel old.out.text new.out.text)
+    c.in-Err-Sink.field-0-is c.in-Err-Sink.ensures.part)
     refl
 
 pub returns-in-Err-NoMemory : goal.returns-in-Err-NoMemory
@@ -64,8 +66,9 @@ returns-in-Err-NoMemory g c =
     let old = outside g.F.Files g.O.Sink g.E.Sink c.args.files.now c.args.out.now c.args.err.now in
     let new = outside g.F.Files g.O.Sink g.E.Sink c.run.new.files c.run.new.out c.out_of_memory.new.err in
     let told = subst (λ e. IsToldIfRose e old.files.faults new.files.faults old.out.faults new.out.faults)
-      c.in-Err-NoMemory.field-0-is c.in-Err-NoMemory.ensures.told in
+    c.in-Err-NoMemory.field-0-is c.in-Err-NoMemory.ensures.told in
     ran.out_of_memory c.args.program.now c.args.inputs.now c.args.fuel old new c.run.ensures.keeps
     c.out_of_memory.result c.out_of_memory.ensures.status c.out_of_memory.ensures.told told.0 told.1
-    (subst (λ e. LeavesAtEnd e old.files.tree c.args.program.now c.args.inputs.now c.args.fuel old.out.text new.out.text)
-      c.in-Err-NoMemory.field-0-is c.in-Err-NoMemory.ensures.part)
+    (subst
+    (λ e. LeavesAtEnd e old.files.tree c.args.program.now c.args.inputs.now c.args.fuel old.out.text new.out.text)
+    c.in-Err-NoMemory.field-0-is c.in-Err-NoMemory.ensures.part)
