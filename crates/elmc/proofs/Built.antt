@@ -76,7 +76,8 @@ module _ (entry output : List ℕ) (jobs : ℕ) (old new : Outside) where
   -- ---- a build that was not done
 
   module _
-      (end : BuildEnd) (not_done : IsNotDone (normal_path output) end old.files new.files) (out : new.out ≡ old.out) where
+      (end : BuildEnd) (not_done : IsNotDone (normal_path output) end old.files new.files)
+      (out : new.out ≡ old.out) where
     pub file_failed : (path : List ℕ) → end ≡ File path → (status : ℕ) → status ≡ 3 →
         LongerByPart old.err.text (failure_line path) new.err.text →
         KeepsPromise (Some (make entry output jobs)) status old new

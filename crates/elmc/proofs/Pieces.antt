@@ -1,6 +1,6 @@
 -- Texts that grew by a piece or by a part of one.
-use Rattle.std.proofs.Common.{◌≡◌, ◌<◌, ℕ, zero, suc, List, [], ◌∷◌, ◌++◌, length, take, Option, Some, None, Result, Ok, Err}
-use Rattle.std.proofs.Common.{refl, sym, ap, ◌∙◌, append_assoc, append-nil}
+use Rattle.std.proofs.Common.{◌≡◌, ◌<◌, ℕ, zero, suc, List, [], ◌∷◌, ◌++◌, length, take, Option, Some, None}
+use Rattle.std.proofs.Common.{Result, Ok, Err, refl, sym, ap, ◌∙◌, append_assoc, append-nil}
 use Rattle.elm_files.specs.declared.outside.FileError.{FileError}
 use Rattle.elm_files.specs.declared.outside.FileError.TheVariants.{Failed, NoMemory}
 use Rattle.elm_files.specs.Answers.{FailedIffRose, OnFailed, OnNoMemory}

@@ -42,8 +42,8 @@ pub fn top<R: Threads + Wait + Sync, F: Files, O: Sink, E: Sink, G: Gate + Sync>
     requires out { O.faults out.old < 18446744073709551615 }
     requires err { E.faults err.old < 18446744073709551615 }
 
-    // The words and the files alone give the effect of the command (specs/Effect.antt). The promise has a field for each
-    // fact (specs/Promise.antt): what a status says of the effect, and what is printed and left when a call fails.
+    // The words and the files alone give the effect of the command (`specs/Effect.antt`). The promise has a field for
+    // each fact (`specs/Promise.antt`): what a status says of the effect, and what is printed and left if a call fails.
     ensures { KeepsPromise (command_line (map string_bytes words.now)) result
         (outside F.Files O.Sink E.Sink files.old out.old err.old)
         (outside F.Files O.Sink E.Sink files.new out.new err.new) }
