@@ -1,9 +1,10 @@
--- The promise of `top`: each way to end keeps it (Kept), by the effect that the words and the files have (Settled).
+-- the promise is kept by each way in which a command ends
 pub mod Kept
--- a build and a run end in these ways
+-- the ways of a build
 pub mod Built
+-- the ways of a run
 pub mod Ran
--- the effect is one
+-- the words and the files have one effect
 pub mod Settled
 -- texts that grew by a piece or by a part of one
 pub mod Pieces

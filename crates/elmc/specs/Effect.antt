@@ -33,8 +33,8 @@ run_effect tree (Ran trace) =
     record { status = if is_ready trace then 0 else 1; out = told_text trace; err = []; tree = tree }
 run_effect tree (Refused line) = complaint 1 line tree
 
--- The command that the words ask for has this effect. Words that ask for none have the usage. A tree that is not told
--- may be any.
+-- The command that the words ask for has this effect on these files. Words that ask for none have the usage. If the
+-- files tell no tree, any outcome may be theirs.
 abbrev pub HasEffect : Option Command → Option Tree → Effect → Type 0
 HasEffect None tree effect = effect ≡ complaint 2 USAGE.now tree
 HasEffect (Some (make entry output jobs)) tree effect =
