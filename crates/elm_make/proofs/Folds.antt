@@ -5,7 +5,7 @@ use Rattle.first_emit.specs.Emit.{Emit}
 use Rattle.first_canon.specs.Tree.{Project}
 use Rattle.first_compile.specs.Made.{Result, Good, NotYet, Made}
 use Rattle.elm_base.specs.declared.fault.Code.TheVariants.{NotYet as not_yet}
-use Rattle.elm_make.specs.BuildsTo.{Outcome, Text, Faulty, start_line, Folded, no_module, one_module}
+use Rattle.elm_make.specs.BuildsTo.{Text, Faulty, start_line, Folded, no_module, one_module}
 use Rattle.elm_make.specs.BuildsTo.{IsFoldOf, IsJoined, linked, outcome_for}
 use Rattle.elm_make.specs.End.{IsOnly}
 

@@ -1,12 +1,11 @@
 -- A build keeps the promise by each way in which it ends: its outcome settles the effect.
-use Rattle.std.proofs.Common.{◌≡◌, ℕ, List, Option, Some, ap, arith, inl, inr, subst}
+use Rattle.std.proofs.Common.{◌≡◌, ℕ, List, Some, ap, arith, inl, inr, subst}
 use Rattle.std.specs.Prelude.{◌⊎◌, IfSome}
 use Rattle.std.specs.declared.vec.Vec.{Vec}
 use Rattle.std.specs.declared.alloc.Global.{Global}
 use Rattle.command_line.specs.Command.{make}
 use Rattle.elm_base.specs.declared.fault.Fault.{Fault}
 use Rattle.elm_files.specs.Texts.{LongerByPart}
-use Rattle.elm_files.specs.Tree.{Tree}
 use Rattle.elm_make.specs.declared.project.Built.{Built}
 use Rattle.elm_make.specs.declared.project.BuildEnd.{BuildEnd}
 use Rattle.elm_make.specs.declared.project.BuildEnd.TheVariants.{File, NoMemory}
@@ -16,7 +15,7 @@ use Rattle.elm_make.specs.End.{HasCause, IsDone, IsNotDone, IsOnly, IsToldIfRose
 use Rattle.elm_make.specs.Paths.{normal_path}
 use Rattle.elm_make.specs.View.{built_view, outcome_of}
 use Rattle.elmc.specs.Causes.{failure_line, memory_line}
-use Rattle.elmc.specs.Effect.{build_effect, complaint}
+use Rattle.elmc.specs.Effect.{build_effect}
 use Rattle.elmc.specs.Outside.{Outside}
 use Rattle.elmc.specs.Promise.{KeepsPromise}
 use Rattle.elmc.specs.Report.{Prints, Says}

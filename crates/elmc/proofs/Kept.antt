@@ -1,5 +1,5 @@
 -- The promise is kept by each way in which a command ends: with its whole effect, with a failure, or out of memory.
-use Rattle.std.proofs.Common.{◌≡◌, ◌≢◌, ◌<◌, ◌∙◌, ℕ, List, Option, None, Some}
+use Rattle.std.proofs.Common.{◌≡◌, ◌<◌, ◌∙◌, ℕ, List, Option, None, Some}
 use Rattle.std.proofs.Common.{ap, arith, inl, inr, is_some, refl, subst, sym}
 use Rattle.std.proofs.Math.Nat.{lt_irrefl}
 use Rattle.std.specs.Prelude.{◌⊎◌}
@@ -12,11 +12,11 @@ use Rattle.elm_files.proofs.Trees.{file_at-with_file_other}
 use Rattle.elm_make.specs.BuildsTo.{Text, compiled_line}
 use Rattle.elm_make.specs.Paths.{normal_path}
 use Rattle.elmc.specs.Causes.{SomeCountRose, TellsFile, err_rose, failure_line, file_rose, memory_line, out_rose}
-use Rattle.elmc.specs.Effect.{Effect, HasEffect, build_effect, complaint}
+use Rattle.elmc.specs.Effect.{Effect, build_effect, complaint}
 use Rattle.elmc.specs.Outside.{Outside}
 use Rattle.elmc.specs.Promise.{ChangesOnly, HasComplained, HasPrinted, HasWritten, KeepsPromise}
 use Rattle.elmc.specs.Report.{Prints, Says, all_printed, all_said, none_printed, none_said, part_printed, part_said}
-use Rattle.elmc.proofs.Pieces.{all, longer_nil, nothing}
+use Rattle.elmc.proofs.Pieces.{all, longer_nil}
 use Rattle.elmc.proofs.Settled.{IsSettled, means}
 
 -- no count rose if all are as before
