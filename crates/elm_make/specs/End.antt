@@ -36,7 +36,7 @@ SaysDone (Faulty told) lines wanted = Unit {0}
 pub record IsDone (path : List ℕ) (built : Built) (old new : FilesState) : Type 0 where
   -- the output holds the text, if there is one, and nothing else changed
   pub leaves : Leaves path (built_view built) old.tree new.tree
-  -- what is printed for a text is one line
+  -- the line that is printed for a text says that it is written
   pub says : SaysDone (built_view built) built.lines.items (compiled_line path)
   -- the modules of the project are counted
   pub counts : built.modules ≡ modules_of (built_view built)

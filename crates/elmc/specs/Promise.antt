@@ -27,7 +27,7 @@ pub record HasWritten (asked : Option Command) (old new : Outside) : Type 0 wher
   pub given : HasEffect asked old.files.tree effect
   pub tree : new.files.tree ≡ effect.tree
 
--- so they do, and standard output has a beginning of what the effect puts there
+-- the files hold what they hold after the effect, and standard output has a beginning of what the effect puts there
 pub record HasPrinted (asked : Option Command) (old new : Outside) : Type 0 where
   pub effect : Effect
   pub given : HasEffect asked old.files.tree effect
