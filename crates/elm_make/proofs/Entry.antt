@@ -1,4 +1,4 @@
--- What the entry comes to, by what a read of its file finds.
+-- The outcome that the entry gives, by what a read of its file finds.
 use Rattle.std.proofs.Common.{◌≡◌, ◌≤◌, ◌<◌, ℕ, List, [], ◌∷◌, Option, Some, None, length, refl, sym, ap, subst}
 use Rattle.std.specs.Prelude.{if◌then◌else◌, IsSomeAnd}
 use Rattle.std.specs.declared.vec.Vec.{Vec}
@@ -9,8 +9,9 @@ use Rattle.elm_files.specs.declared.outside.Got.{Got}
 use Rattle.elm_files.specs.declared.outside.Got.TheVariants.{Bytes, TooLong}
 use Rattle.elm_files.specs.Tree.{IsReadOf}
 use Rattle.first_compile.specs.Made.{Result, NotYet, Made, too_long}
-use Rattle.elm_make.specs.Clean.{Outcome, Faulty, start_line, text_within, IsFoldOf, IsBuiltFrom}
-use Rattle.elm_make.proofs.Folds.{bad_fold, bad_fold_only}
+use Rattle.elm_make.specs.BuildsTo.{Outcome, Faulty, start_line, text_within, IsFoldOf, IsBuiltFrom, one_source}
+use Rattle.elm_make.specs.End.{IsOnly}
+use Rattle.elm_make.proofs.Folds.{bad_fold}
 
 text_within_limit : (text : List ℕ) → length text ≤ 4194304 → text_within text ≡ Some text
 text_within_limit text short = ap (λ b. if b then Some text else None) (le-leb (length text) 4194304 short)
@@ -18,31 +19,28 @@ text_within_limit text short = ap (λ b. if b then Some text else None) (le-leb 
 text_over_limit : (text : List ℕ) → 4194304 < length text → text_within text ≡ None
 text_over_limit text long = ap (λ b. if b then Some text else None) (lt-leb (length text) 4194304 long)
 
--- a file that was read comes to what the fold over its text gives
-pub fold_from_built : (file : Option (List ℕ)) (path : List ℕ) (bytes : Vec ℕ Global) (got : Got) → got ≡ Bytes bytes → IsReadOf file 4194304 got → (outcome : Outcome) → IsBuiltFrom file path outcome → IsFoldOf ((path, Some bytes.items) ∷ []) outcome
-fold_from_built file path bytes got is read outcome built =
+-- a file that was read gives what the fold over its text gives
+pub read_built : (file : Option (List ℕ)) (path : List ℕ) (bytes : Vec ℕ Global) (got : Got) → got ≡ Bytes bytes →
+    IsReadOf file 4194304 got → (outcome : Outcome) → IsOnly (IsFoldOf (one_source path bytes.items)) outcome →
+    IsOnly (IsBuiltFrom file path) outcome
+read_built file path bytes got is read outcome fold =
     let found : IsReadOf file 4194304 (Bytes bytes) = subst (λ g. IsReadOf file 4194304 g) is read in
-    let from_text : IsBuiltFrom (Some bytes.items) path outcome = subst (λ f. IsBuiltFrom f path outcome) found.0 built in
-    subst (λ text. IsFoldOf ((path, text) ∷ []) outcome) (text_within_limit bytes.items found.1) from_text
+    let within : IsOnly (IsBuiltFrom (Some bytes.items) path) outcome =
+    subst (λ text. IsOnly (IsFoldOf ((path, text) ∷ [])) outcome) (sym (text_within_limit bytes.items found.1)) fold in
+    subst (λ f. IsOnly (IsBuiltFrom f path) outcome) (sym found.0) within
 
 -- a module over the limit has faults, and is nothing else
 only_faulty : (made : Result) → Made None made → made ≡ NotYet
 only_faulty made too_long = refl
 
-over_limit_built : (file : Option (List ℕ)) (path : List ℕ) → IsSomeAnd file (λ text. 4194304 < length text) → IsBuiltFrom file path (Faulty (start_line not_yet path))
+over_limit_built : (file : Option (List ℕ)) (path : List ℕ) → IsSomeAnd file (λ text. 4194304 < length text) →
+    IsOnly (IsBuiltFrom file path) (Faulty (start_line not_yet path))
 over_limit_built None path long = absurd long
 over_limit_built (Some text) path long =
-    subst (λ t. IsFoldOf ((path, t) ∷ []) (Faulty (start_line not_yet path))) (sym (text_over_limit text long)) (bad_fold path None too_long)
+    subst (λ t. IsOnly (IsFoldOf ((path, t) ∷ [])) (Faulty (start_line not_yet path))) (sym (text_over_limit text long))
+    (bad_fold path None too_long only_faulty)
 
-over_limit_built_only : (file : Option (List ℕ)) (path : List ℕ) → IsSomeAnd file (λ text. 4194304 < length text) → (outcome : Outcome) → IsBuiltFrom file path outcome → outcome ≡ Faulty (start_line not_yet path)
-over_limit_built_only None path long outcome built = absurd long
-over_limit_built_only (Some text) path long outcome built =
-    bad_fold_only path None only_faulty outcome (subst (λ t. IsFoldOf ((path, t) ∷ []) outcome) (text_over_limit text long) built)
-
--- a file that is too long comes to the fault of its module
-pub too_long_built : (file : Option (List ℕ)) (path : List ℕ) (got : Got) → got ≡ TooLong → IsReadOf file 4194304 got → IsBuiltFrom file path (Faulty (start_line not_yet path))
+-- a file that is too long gives the fault of its module
+pub too_long_built : (file : Option (List ℕ)) (path : List ℕ) (got : Got) → got ≡ TooLong →
+    IsReadOf file 4194304 got → IsOnly (IsBuiltFrom file path) (Faulty (start_line not_yet path))
 too_long_built file path got is read = over_limit_built file path (subst (λ g. IsReadOf file 4194304 g) is read)
-
--- and to nothing else
-pub too_long_built_only : (file : Option (List ℕ)) (path : List ℕ) (got : Got) → got ≡ TooLong → IsReadOf file 4194304 got → (outcome : Outcome) → IsBuiltFrom file path outcome → outcome ≡ Faulty (start_line not_yet path)
-too_long_built_only file path got is read = over_limit_built_only file path (subst (λ g. IsReadOf file 4194304 g) is read)

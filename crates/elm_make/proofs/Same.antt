@@ -6,37 +6,48 @@ use Rattle.first_canon.specs.Tree.{Project}
 use Rattle.first_compile.specs.Made.{Result, Made}
 use Rattle.first_compile.proofs.Same.{same_made}
 use Rattle.elm_make.specs.Paths.{normal_path, is_absolute, is_output, is_entry}
-use Rattle.elm_make.specs.Clean.{Outcome, Text, start_line, text_within, Folded, no_module, one_module, IsJoined, linked, IsFoldOf, IsBuiltFrom, Clean}
+use Rattle.elm_make.specs.BuildsTo.{Outcome, Text, start_line, text_within, Folded, no_module, one_module}
+use Rattle.elm_make.specs.BuildsTo.{IsJoined, linked, IsFoldOf, IsBuiltFrom, BuildsTo}
 use Rattle.elm_make.proofs.Folds.{folded_one}
 use Rattle.elm_make.proofs.Steps.{steps_same}
 
--- the fold over one module, by what the module comes to
-pub of_one : {P : Type 0} (path : List ℕ) (text : Option (List ℕ)) (outcome : Outcome) → IsFoldOf ((path, text) ∷ []) outcome → ((made : Result) → Made text made → IsJoined (linked ((path, made) ∷ [])) ((path, made) ∷ []) outcome → P) → P
+-- the fold over one module, by the result of the module
+pub of_one : {P : Type 0} (path : List ℕ) (text : Option (List ℕ)) (outcome : Outcome) →
+    IsFoldOf ((path, text) ∷ []) outcome →
+    ((made : Result) → Made text made → IsJoined (linked ((path, made) ∷ [])) ((path, made) ∷ []) outcome → P) → P
 of_one {P} path text outcome f go = by f.0 f.1 f.2
   where
-    by : (results : List (List ℕ × Result)) → Folded ((path, text) ∷ []) results → IsJoined (linked results) results outcome → P
+    by : (results : List (List ℕ × Result)) → Folded ((path, text) ∷ []) results →
+        IsJoined (linked results) results outcome → P
     by _ (one_module {made = made} m no_module) joined = go made m joined
 
 -- results that are joined have one outcome
-joined_same : (entry : Option Project) (results : List (List ℕ × Result)) (a b : Outcome) → IsJoined entry results a → IsJoined entry results b → a ≡ b
+joined_same : (entry : Option Project) (results : List (List ℕ × Result)) (a b : Outcome) →
+    IsJoined entry results a → IsJoined entry results b → a ≡ b
 joined_same (Some p) results a b j k = j.2 ∙ ap Text (j.1 ∙ sym k.1) ∙ sym k.2
 joined_same None results a b j k = j ∙ sym k
 
-fold_same : (path : List ℕ) (text : Option (List ℕ)) (a b : Outcome) → IsFoldOf ((path, text) ∷ []) a → IsFoldOf ((path, text) ∷ []) b → a ≡ b
+fold_same : (path : List ℕ) (text : Option (List ℕ)) (a b : Outcome) →
+    IsFoldOf ((path, text) ∷ []) a → IsFoldOf ((path, text) ∷ []) b → a ≡ b
 fold_same path text a b f g =
     of_one path text a f
     (λ made m j.
     let same = folded_one path text made (λ other k. same_made text other made k m) g.0 g.1 in
-    let k : IsJoined (linked ((path, made) ∷ [])) ((path, made) ∷ []) b = subst (λ rs. IsJoined (linked rs) rs b) same g.2 in
+    let k : IsJoined (linked ((path, made) ∷ [])) ((path, made) ∷ []) b =
+    subst (λ rs. IsJoined (linked rs) rs b) same g.2 in
     joined_same (linked ((path, made) ∷ [])) ((path, made) ∷ []) a b j k)
 
-built_same : (file : Option (List ℕ)) (path : List ℕ) (a b : Outcome) → IsBuiltFrom file path a → IsBuiltFrom file path b → a ≡ b
+built_same : (file : Option (List ℕ)) (path : List ℕ) (a b : Outcome) →
+    IsBuiltFrom file path a → IsBuiltFrom file path b → a ≡ b
 built_same None path a b f g = f ∙ sym g
 built_same (Some text) path a b f g = fold_same path (text_within text) a b f g
 
-pub same_clean : (tree : Tree) (entry output : List ℕ) (a b : Outcome) → Clean tree entry output a → Clean tree entry output b → a ≡ b
-same_clean tree entry output a b =
+pub same_outcome : (tree : Tree) (entry output : List ℕ) (a b : Outcome) →
+    BuildsTo tree entry output a → BuildsTo tree entry output b → a ≡ b
+same_outcome tree entry output a b =
     let file = tree (normal_path entry) in
     steps_same (is_absolute output) (is_output (normal_path output)) (is_absolute entry) (is_entry (normal_path entry))
-    (start_line BadOutput output) (start_line EntryNotFound entry) (start_line EntryNotFound (normal_path entry)) (start_line BadOutput (normal_path output)) a b
-    (IsBuiltFrom file (normal_path entry) a) (IsBuiltFrom file (normal_path entry) b) (built_same file (normal_path entry) a b)
+    (start_line BadOutput output) (start_line EntryNotFound entry)
+    (start_line EntryNotFound (normal_path entry)) (start_line BadOutput (normal_path output)) a b
+    (IsBuiltFrom file (normal_path entry) a) (IsBuiltFrom file (normal_path entry) b)
+    (built_same file (normal_path entry) a b)

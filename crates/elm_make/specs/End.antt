@@ -1,12 +1,47 @@
--- What a build leaves, and why it was not done.
-use Rattle.std.specs.Prelude.{◌≡◌, ◌<◌, ℕ, List, Option}
+-- What a build leaves and reports, with an outcome or without one.
+use Rattle.std.specs.Prelude.{◌≡◌, ◌<◌, ℕ, List, Option, IfOk, IfSome, Result, Ok, Err}
 use Rattle.elm_files.specs.declared.outside.FileError.{FileError}
 use Rattle.elm_files.specs.declared.outside.FileError.TheVariants.{Failed}
 use Rattle.elm_files.specs.declared.outside.FileError.TheVariants as no_memory
+use Rattle.elm_files.specs.States.{FilesState}
 use Rattle.elm_files.specs.Tree.{Tree, with_file, SameElsewhere}
+use Rattle.elm_make.specs.declared.project.Built.{Built}
 use Rattle.elm_make.specs.declared.project.BuildEnd.{BuildEnd}
 use Rattle.elm_make.specs.declared.project.BuildEnd.TheVariants.{File, NoMemory}
-use Rattle.elm_make.specs.Clean.{Outcome, Stopped, Faulty, Text}
+use Rattle.elm_make.specs.BuildsTo.{Outcome, Stopped, Faulty, Text, compiled_line, modules_of}
+use Rattle.elm_make.specs.View.{built_view}
+
+-- the outcome is one by R, and there is no other
+pub record IsOnly (R : Outcome → Type 0) (outcome : Outcome) : Type 0 where
+  pub holds : R outcome
+  pub only : (other : Outcome) → R other → other ≡ outcome
+
+-- a build that was done has the one outcome that R gives for the files, if they tell what they hold
+abbrev pub HasOutcome : Option Tree → (Tree → Outcome → Type 0) → Result Built BuildEnd → Type 0
+HasOutcome told R result = IfOk result (λ built. IfSome told (λ tree. IsOnly (R tree) (built_view built)))
+
+-- if there is a text, the file at this path holds it, and nothing else changed; otherwise nothing changed
+abbrev pub Leaves : List ℕ → Outcome → Option Tree → Option Tree → Type 0
+Leaves path (Text text) old new = new ≡ with_file old path text
+Leaves path (Stopped lines) old new = new ≡ old
+Leaves path (Faulty lines) old new = new ≡ old
+
+-- the lines that are printed for a text
+abbrev pub SaysDone : Outcome → List ℕ → List ℕ → Type 0
+SaysDone (Text text) lines wanted = lines ≡ wanted
+SaysDone (Stopped told) lines wanted = Unit {0}
+SaysDone (Faulty told) lines wanted = Unit {0}
+
+-- a build that was done, with its output at this path
+pub record IsDone (path : List ℕ) (built : Built) (old new : FilesState) : Type 0 where
+  -- the output holds the text, if there is one, and nothing else changed
+  pub leaves : Leaves path (built_view built) old.tree new.tree
+  -- the line that is printed for a text says that it is written
+  pub says : SaysDone (built_view built) built.lines.items (compiled_line path)
+  -- the modules of the project are counted
+  pub counts : built.modules ≡ modules_of (built_view built)
+  -- no call failed
+  pub no_fault : new.faults ≡ old.faults
 
 -- a path is reported only if its count of failures rose
 abbrev pub HasCause : BuildEnd → (List ℕ → ℕ) → (List ℕ → ℕ) → Type 0
@@ -17,6 +52,25 @@ HasCause NoMemory before after = Unit {0}
 abbrev pub IsToldIfRose : BuildEnd → (List ℕ → ℕ) → (List ℕ → ℕ) → Type 0
 IsToldIfRose (File path) before after = Unit {0}
 IsToldIfRose NoMemory before after = after ≡ before
+
+-- a build that was not done changed at most the file at this path, and that only if a file failed
+abbrev pub LeavesAtEnd : List ℕ → BuildEnd → Option Tree → Option Tree → Type 0
+LeavesAtEnd path (File told) old new = SameElsewhere path old new
+LeavesAtEnd path NoMemory old new = new ≡ old
+
+-- a build that was not done, with its output at this path
+pub record IsNotDone (path : List ℕ) (end : BuildEnd) (old new : FilesState) : Type 0 where
+  -- a path is reported only if a call on it failed
+  pub cause : HasCause end old.faults new.faults
+  -- a call that failed is reported
+  pub told : IsToldIfRose end old.faults new.faults
+  -- nothing changed but the output, and that only if a call failed
+  pub leaves : LeavesAtEnd path end old.tree new.tree
+
+-- what a build with its output at this path leaves and reports
+abbrev pub IsBuilt : List ℕ → Result Built BuildEnd → FilesState → FilesState → Type 0
+IsBuilt path (Ok built) old new = IsDone path built old new
+IsBuilt path (Err end) old new = IsNotDone path end old new
 
 -- the end reports a path
 abbrev pub IsFile : BuildEnd → Type 0
@@ -32,20 +86,3 @@ IsEndAt NoMemory path error = Unit {0}
 abbrev pub IsFailureTold : FileError → BuildEnd → Type 0
 IsFailureTold Failed end = IsFile end
 IsFailureTold no_memory.NoMemory end = end ≡ NoMemory
-
--- if there is a text, the file at this path holds it, and nothing else changed; otherwise nothing changed
-abbrev pub Leaves : List ℕ → Outcome → Option Tree → Option Tree → Type 0
-Leaves path (Text text) old new = new ≡ with_file old path text
-Leaves path (Stopped lines) old new = new ≡ old
-Leaves path (Faulty lines) old new = new ≡ old
-
--- a build that was not done changed at most the file at this path, and that only if a file failed
-abbrev pub LeavesAtEnd : List ℕ → BuildEnd → Option Tree → Option Tree → Type 0
-LeavesAtEnd path (File told) old new = SameElsewhere path old new
-LeavesAtEnd path NoMemory old new = new ≡ old
-
--- the lines that are printed for a text
-abbrev pub SaysDone : Outcome → List ℕ → List ℕ → Type 0
-SaysDone (Text text) lines wanted = lines ≡ wanted
-SaysDone (Stopped told) lines wanted = Unit {0}
-SaysDone (Faulty told) lines wanted = Unit {0}

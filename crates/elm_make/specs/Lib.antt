@@ -1,5 +1,5 @@
 pub mod Paths
-pub mod Clean
-pub mod End
+pub mod BuildsTo
 pub mod View
+pub mod End
 pub mod Translated

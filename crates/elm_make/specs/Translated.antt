@@ -29,8 +29,11 @@ pub record Translates (text bytes : List ℕ) : Type 0 where
   pub only : (other : Result) → Made (Some text) other → other ≡ Good project
   pub program : Program
   pub spelled : IsTextOfOne bytes program
-  pub ruled : (flags : Wire) (inputs : List (List ℕ × Wire)) → AreInputs inputs → (n : ℕ) → IsRuled (SourceRun project flags inputs n)
-  pub alike : (flags : Wire) (inputs : List (List ℕ × Wire)) → AreInputs inputs → ((n : ℕ) → IsSafe (SourceRun project flags inputs n)) → SameRun (SourceRun project flags inputs) (JsRun program flags inputs)
+  pub ruled : (flags : Wire) (inputs : List (List ℕ × Wire)) → AreInputs inputs →
+      (n : ℕ) → IsRuled (SourceRun project flags inputs n)
+  pub alike : (flags : Wire) (inputs : List (List ℕ × Wire)) → AreInputs inputs →
+      ((n : ℕ) → IsSafe (SourceRun project flags inputs n)) →
+      SameRun (SourceRun project flags inputs) (JsRun program flags inputs)
 
 -- there is a file, and the bytes are its translation
 abbrev pub IsTranslation : Option (List ℕ) → List ℕ → Type 0

@@ -4,7 +4,7 @@ use Rattle.std.specs.declared.vec.Vec.{Vec}
 use Rattle.std.specs.declared.alloc.Global.{Global}
 use Rattle.elm_make.specs.declared.project.Built.{Built}
 use Rattle.elm_make.specs.declared.project.Outcome as program
-use Rattle.elm_make.specs.Clean.{Outcome, Stopped, Faulty, Text}
+use Rattle.elm_make.specs.BuildsTo.{Outcome, Stopped, Faulty, Text}
 
 -- with the lines that are printed
 abbrev pub outcome_of : program.Outcome → List ℕ → Outcome

@@ -8,5 +8,5 @@ mod lines;
 mod paths;
 mod project;
 
-pub use laws::{clean_law, translation_law};
+pub use laws::{outcome_law, translation_law};
 pub use project::{BuildEnd, Built, Outcome, build};

@@ -1,7 +1,7 @@
 //! The lines that a build prints.
 
-ghost use Rattle.std.specs.Prelude.{◌≡◌, IfOk, codes, ◌++◌};
-ghost use Rattle.elm_make.specs.Clean.{start_line};
+ghost use Rattle.std.specs.Prelude.{◌≡◌, IfOk};
+ghost use Rattle.elm_make.specs.BuildsTo.{compiled_line, start_line};
 
 use elm_base::fault::{Code, Fault, fault_line};
 use elm_base::position::{Pos, Region};
@@ -25,7 +25,7 @@ pub fn refusal(alloc: Global, code: Code, path: &str) -> Result<(Fault, Vec<u8>)
 
 /// `compiled to FILE, modules: 1`
 pub fn compiled(alloc: Global, output: &str) -> Result<Vec<u8>, AllocError>
-    ensures { IfOk result (λ line. line.items ≡ codes "compiled to " ++ (output.now ++ codes ", modules: 1\n")) }
+    ensures { IfOk result (λ line. line.items ≡ compiled_line output.now) }
 {
     let mut line = Vec::with_capacity(alloc, output.len())?;
     line.extend_from_slice(b"compiled to ")?;

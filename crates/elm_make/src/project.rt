@@ -1,12 +1,13 @@
 //! One build of a project.
 
-ghost use Rattle.std.specs.Prelude.{◌≡◌, ◌≤◌, ◌++◌, ℕ, List, [], ◌∷◌, IfErr, IfOk, IfSome, Some, None, codes, length};
-ghost use Rattle.elm_base.specs.declared.fault.Code.TheVariants.{BadOutput, EntryNotFound, NotYet as not_yet};
+ghost use Rattle.std.specs.Prelude.{◌≡◌, ◌≤◌, ℕ, List, IfOk, length};
+ghost use Rattle.elm_base.specs.declared.fault.Code.TheVariants.{NotYet as not_yet};
 ghost use Rattle.elm_files.specs.Answers.{NoneFull};
-ghost use Rattle.elm_make.specs.Clean.{Clean, IsBuiltFrom, IsFoldOf, Outcome as PlainOutcome, compiled_line, modules_of, outcome_for, start_line};
-ghost use Rattle.elm_make.specs.Clean as plain;
-ghost use Rattle.elm_files.specs.Tree.{with_file};
-ghost use Rattle.elm_make.specs.End.{HasCause, IsToldIfRose, IsEndAt, IsFailureTold, Leaves, LeavesAtEnd, SaysDone};
+ghost use Rattle.elm_files.specs.States.{files_state};
+ghost use Rattle.elm_make.specs.BuildsTo as plain;
+ghost use Rattle.elm_make.specs.BuildsTo.{BuildsTo, IsBuiltFrom, IsFoldOf, modules_of, one_source};
+ghost use Rattle.elm_make.specs.BuildsTo.{outcome_for, start_line};
+ghost use Rattle.elm_make.specs.End.{HasOutcome, IsBuilt, IsEndAt, IsFailureTold, IsOnly};
 ghost use Rattle.elm_make.specs.Paths.{normal_path};
 ghost use Rattle.elm_make.specs.View.{built_view, text_view};
 
@@ -94,19 +95,11 @@ pub fn build<R: Threads + Wait + Sync, F: Files, G: Gate + Sync>(
     requires { NoneFull (F.faults files.old) }
 
     // The outcome is the one that the definition gives, and no other is.
-    ensures clean { IfOk result (λ built. IfSome (F.tree files.old) (λ tree. Clean tree entry.now output.now (built_view built))) }
-    ensures only { IfOk result (λ built. IfSome (F.tree files.old) (λ tree. (other : PlainOutcome) → Clean tree entry.now output.now other → other ≡ built_view built)) }
+    ensures outcome { HasOutcome (F.tree files.old) (λ tree. BuildsTo tree entry.now output.now) result }
 
-    // What the build leaves and prints.
-    ensures leaves { IfOk result (λ built. Leaves (normal_path output.now) (built_view built) (F.tree files.old) (F.tree files.new)) }
-    ensures says { IfOk result (λ built. SaysDone (built_view built) built.lines.items (compiled_line output.now)) }
-    ensures counts { IfOk result (λ built. built.modules ≡ modules_of (built_view built)) }
-    ensures no_fault { IfOk result (λ built. F.faults files.new ≡ F.faults files.old) }
-
-    // Why there is no outcome, and what the build leaves then.
-    ensures cause { IfErr result (λ end. HasCause end (F.faults files.old) (F.faults files.new)) }
-    ensures told { IfErr result (λ end. IsToldIfRose end (F.faults files.old) (F.faults files.new)) }
-    ensures leaves_at_end { IfErr result (λ end. LeavesAtEnd (normal_path output.now) end (F.tree files.old) (F.tree files.new)) }
+    // What the build leaves and reports, with an outcome or without one.
+    ensures built { IsBuilt (normal_path output.now) result
+        (files_state F.Files files.old) (files_state F.Files files.new) }
 {
     let file = normal(alloc, output)?;
     if is_absolute(output) {
@@ -134,15 +127,8 @@ fn build_entry<F: Files, G: Gate>(
     file: &str,
 ) -> Result<Built, BuildEnd>
     requires { NoneFull (F.faults files.old) }
-    ensures clean { IfOk result (λ built. IfSome (F.tree files.old) (λ tree. IsBuiltFrom (tree source.now) source.now (built_view built))) }
-    ensures only { IfOk result (λ built. IfSome (F.tree files.old) (λ tree. (other : PlainOutcome) → IsBuiltFrom (tree source.now) source.now other → other ≡ built_view built)) }
-    ensures leaves { IfOk result (λ built. Leaves file.now (built_view built) (F.tree files.old) (F.tree files.new)) }
-    ensures says { IfOk result (λ built. SaysDone (built_view built) built.lines.items (codes "compiled to " ++ (file.now ++ codes ", modules: 1\n"))) }
-    ensures counts { IfOk result (λ built. built.modules ≡ modules_of (built_view built)) }
-    ensures no_fault { IfOk result (λ built. F.faults files.new ≡ F.faults files.old) }
-    ensures cause { IfErr result (λ end. HasCause end (F.faults files.old) (F.faults files.new)) }
-    ensures told { IfErr result (λ end. IsToldIfRose end (F.faults files.old) (F.faults files.new)) }
-    ensures leaves_at_end { IfErr result (λ end. LeavesAtEnd file.now end (F.tree files.old) (F.tree files.new)) }
+    ensures outcome { HasOutcome (F.tree files.old) (λ tree. IsBuiltFrom (tree source.now) source.now) result }
+    ensures built { IsBuilt file.now result (files_state F.Files files.old) (files_state F.Files files.new) }
 {
     let path = Text::copy(alloc, source.as_bytes())?;
     match files.read(source, MAX_TEXT) {
@@ -164,15 +150,8 @@ fn build_text<F: Files, G: Gate>(
 ) -> Result<Built, BuildEnd>
     requires short { length text.now ≤ 4194304 }
     requires none_full { NoneFull (F.faults files.old) }
-    ensures clean { IfOk result (λ built. IsFoldOf ((source.now, Some text.now) ∷ []) (built_view built)) }
-    ensures only { IfOk result (λ built. (other : PlainOutcome) → IsFoldOf ((source.now, Some text.now) ∷ []) other → other ≡ built_view built) }
-    ensures leaves { IfOk result (λ built. Leaves file.now (built_view built) (F.tree files.old) (F.tree files.new)) }
-    ensures says { IfOk result (λ built. SaysDone (built_view built) built.lines.items (codes "compiled to " ++ (file.now ++ codes ", modules: 1\n"))) }
-    ensures counts { IfOk result (λ built. built.modules ≡ modules_of (built_view built)) }
-    ensures no_fault { IfOk result (λ built. F.faults files.new ≡ F.faults files.old) }
-    ensures cause { IfErr result (λ end. HasCause end (F.faults files.old) (F.faults files.new)) }
-    ensures told { IfErr result (λ end. IsToldIfRose end (F.faults files.old) (F.faults files.new)) }
-    ensures leaves_at_end { IfErr result (λ end. LeavesAtEnd file.now end (F.tree files.old) (F.tree files.new)) }
+    ensures outcome { IfOk result (λ built. IsOnly (IsFoldOf (one_source source.now text.now)) (built_view built)) }
+    ensures built { IsBuilt file.now result (files_state F.Files files.old) (files_state F.Files files.new) }
 {
     gate.before(0, 0);
     let program = program_text(alloc, text)?;
@@ -186,8 +165,8 @@ fn build_text<F: Files, G: Gate>(
 /// The text of the program of a module, or none if the module is not accepted.
 fn program_text(alloc: Global, text: &[u8]) -> Result<Option<Vec<u8>>, AllocError>
     requires { length text.now ≤ 4194304 }
-    ensures clean { IfOk result (λ program. (path : List ℕ) → IsFoldOf ((path, Some text.now) ∷ []) (outcome_for path (text_view program))) }
-    ensures only { IfOk result (λ program. (path : List ℕ) (other : PlainOutcome) → IsFoldOf ((path, Some text.now) ∷ []) other → other ≡ outcome_for path (text_view program)) }
+    ensures { IfOk result (λ program. (path : List ℕ) →
+        IsOnly (IsFoldOf (one_source path text.now)) (outcome_for path (text_view program))) }
 {
     match compile(alloc, text)? {
         Made::Good(project) => {
@@ -207,13 +186,7 @@ fn write_text<F: Files>(
 ) -> Result<Built, BuildEnd>
     requires { NoneFull (F.faults files.old) }
     ensures text { IfOk result (λ built. built_view built ≡ plain.Text program.items) }
-    ensures leaves { IfOk result (λ built. F.tree files.new ≡ with_file (F.tree files.old) file.now program.items) }
-    ensures says { IfOk result (λ built. built.lines.items ≡ codes "compiled to " ++ (file.now ++ codes ", modules: 1\n")) }
-    ensures counts { IfOk result (λ built. built.modules ≡ modules_of (built_view built)) }
-    ensures no_fault { IfOk result (λ built. F.faults files.new ≡ F.faults files.old) }
-    ensures cause { IfErr result (λ end. HasCause end (F.faults files.old) (F.faults files.new)) }
-    ensures told { IfErr result (λ end. IsToldIfRose end (F.faults files.old) (F.faults files.new)) }
-    ensures leaves_at_end { IfErr result (λ end. LeavesAtEnd file.now end (F.tree files.old) (F.tree files.new)) }
+    ensures built { IsBuilt file.now result (files_state F.Files files.old) (files_state F.Files files.new) }
 {
     let lines = compiled(alloc, file)?;
     let path = Text::copy(alloc, file.as_bytes())?;

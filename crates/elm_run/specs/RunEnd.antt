@@ -5,7 +5,7 @@ use Rattle.elm_files.specs.Texts.{LongerByPart, longer}
 use Rattle.elm_files.specs.Tree.{Tree}
 use Rattle.runs.specs.Trace.{Trace}
 use Rattle.run_text.specs.Told.{told_text, is_ready}
-use Rattle.elm_run.specs.Runs.{Outcome, Refused, Ran, Runs}
+use Rattle.elm_run.specs.Runs.{Outcome, Refused, Ran, RunsTo}
 use Rattle.elm_run.specs.declared.course.Ended.{Ended}
 use Rattle.elm_run.specs.declared.course.Ended.TheVariants as ended
 use Rattle.elm_run.specs.declared.course.RunEnd.{RunEnd}
@@ -21,14 +21,14 @@ Says ended.Stopped outcome out out' = (trace : Trace) × (outcome ≡ Ran trace)
 -- the files have exactly one outcome, and that was reported
 pub record IsRun (tree : Option Tree) (program inputs : List ℕ) (fuel : ℕ) (out out' : Option (List ℕ)) (end : Ended) : Type 0 where
   pub outcome : Outcome
-  pub found : IfSome tree (λ files. Runs files program inputs fuel outcome)
-  pub only : IfSome tree (λ files. (other : Outcome) → Runs files program inputs fuel other → other ≡ outcome)
+  pub found : IfSome tree (λ files. RunsTo files program inputs fuel outcome)
+  pub only : IfSome tree (λ files. (other : Outcome) → RunsTo files program inputs fuel other → other ≡ outcome)
   pub says : Says end outcome out out'
 
 -- the files give a run, and a beginning of its text was put
 pub record IsRunInPart (tree : Option Tree) (program inputs : List ℕ) (fuel : ℕ) (out out' : Option (List ℕ)) : Type 0 where
   pub trace : Trace
-  pub found : IfSome tree (λ files. Runs files program inputs fuel (Ran trace))
+  pub found : IfSome tree (λ files. RunsTo files program inputs fuel (Ran trace))
   pub told : LongerByPart out (told_text trace) out'
 
 -- a path or the sink is reported only if its count of failures rose

@@ -54,5 +54,5 @@ IsRunFrom path (Some text) comes outcome =
     MatchBool (nat_le (length text) 67108864) (IsRunOf path text comes outcome) (outcome ≡ Refused (file_line GivenFileTooLarge path))
 
 -- the first fault of the program's file, and then of the inputs' file, refuses the run
-abbrev pub Runs : Tree → List ℕ → List ℕ → ℕ → Outcome → Type 0
-Runs tree program inputs fuel outcome = IsRunFrom program (tree program) (λ p. outcome_with p fuel inputs (tree inputs)) outcome
+abbrev pub RunsTo : Tree → List ℕ → List ℕ → ℕ → Outcome → Type 0
+RunsTo tree program inputs fuel outcome = IsRunFrom program (tree program) (λ p. outcome_with p fuel inputs (tree inputs)) outcome

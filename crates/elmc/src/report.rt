@@ -1,25 +1,21 @@
 //! What the program prints on its sinks.
 
-ghost use Rattle.std.specs.Prelude.{◌≡◌, ◌≢◌, ◌<◌, IfOk};
+ghost use Rattle.std.specs.Prelude.{◌≡◌, ◌<◌, IfOk};
 ghost use Rattle.elm_files.specs.Answers.{FailedIffRose};
+ghost use Rattle.elm_files.specs.States.{sink_state};
 ghost use Rattle.elm_files.specs.Texts.{LongerByPart, longer};
-ghost use Rattle.elmc.specs.Causes.{IsEither, failure_line, memory_line};
+ghost use Rattle.elmc.specs.Causes.{failure_line, memory_line};
+ghost use Rattle.elmc.specs.Report.{Prints, Says};
 
 use elm_base::text::Text;
 use elm_files::{FileError, Sink};
 
 /// Prints a line on `out`, and returns 0; 3 if that fails, and 4 if memory runs out.
 pub fn printed<O: Sink, E: Sink>(out: &mut O, err: &mut E, line: &[u8]) -> u8
-    requires out { O.faults out.old < 18446744073709551615 }
-    ensures known { (result ≢ 0) → IsEither result 3 4 }
-    ensures done { result ≡ 0 → O.text out.new ≡ longer (O.text out.old) line.now }
-    ensures told { LongerByPart (O.text out.old) line.now (O.text out.new) }
-    ensures nothing { result ≡ 4 → O.text out.new ≡ O.text out.old }
-    ensures failed { result ≡ 3 → O.faults out.old < O.faults out.new }
-    ensures no_fault { result ≢ 3 → O.faults out.new ≡ O.faults out.old }
-    ensures quiet { result ≢ 4 → E.text err.new ≡ E.text err.old }
-    ensures no_err_fault { result ≢ 4 → E.faults err.new ≡ E.faults err.old }
-    ensures memory { result ≡ 4 → LongerByPart (E.text err.old) memory_line (E.text err.new) }
+    requires { O.faults out.old < 18446744073709551615 }
+    ensures { Prints line.now
+        (sink_state O.Sink out.old) (sink_state O.Sink out.new)
+        (sink_state E.Sink err.old) (sink_state E.Sink err.new) result }
 {
     match out.put(line) {
         Ok(()) => 0,
@@ -30,14 +26,8 @@ pub fn printed<O: Sink, E: Sink>(out: &mut O, err: &mut E, line: &[u8]) -> u8
 
 /// Prints lines on `err`, and returns `status`; 3 if that fails, and 4 if memory runs out.
 pub fn said<E: Sink>(err: &mut E, lines: &[u8], status: u8) -> u8
-    requires err { E.faults err.old < 18446744073709551615 }
-    requires status { status < 3 }
-    ensures known { result ≢ status → IsEither result 3 4 }
-    ensures said { result ≡ status → E.text err.new ≡ longer (E.text err.old) lines.now }
-    ensures part { result ≡ 3 → LongerByPart (E.text err.old) lines.now (E.text err.new) }
-    ensures failed { result ≡ 3 → E.faults err.old < E.faults err.new }
-    ensures no_fault { result ≡ status → E.faults err.new ≡ E.faults err.old }
-    ensures memory { result ≡ 4 → LongerByPart (E.text err.old) memory_line (E.text err.new) }
+    requires { E.faults err.old < 18446744073709551615 }
+    ensures { Says lines.now status (sink_state E.Sink err.old) (sink_state E.Sink err.new) result }
 {
     match err.put(lines) {
         Ok(()) => status,

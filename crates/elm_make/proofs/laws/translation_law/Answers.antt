@@ -1,5 +1,6 @@
-use Rattle.elm_make.proofs.Translated.{clean_translated}
+-- The lemma is `text_translated`: a text comes from the last step, whose module is a program with this JavaScript.
+use Rattle.elm_make.proofs.Translated.{text_translated}
 use Rattle.elm_make.proofs.laws.translation_law.Goals as goal
 
 pub returns : goal.returns
-returns c = clean_translated
+returns c = text_translated

@@ -1,68 +1,39 @@
-use Rattle.std.proofs.Common.{inr, refl, ap, ◌∙◌, subst, arith}
-use Rattle.elm_files.specs.Texts.{LongerByPart, longer}
-use Rattle.elmc.specs.Causes as cause
-use Rattle.elmc.proofs.Outcomes as outcome
+-- Each arm ends the build in one of the ways of `Built`, by what `build` leaves and what the report then prints.
+use Rattle.std.proofs.Common.{refl, subst}
+use Rattle.elmc.specs.Outside.{outside}
+use Rattle.elmc.specs.Report.{Prints, Says}
+use Rattle.elmc.proofs.Built as built
 use Rattle.elmc.proofs.make.make_program.Goals as goal
 
--- ---- the build has a text
+pub returns-in-Text : goal.returns-in-Text
+returns-in-Text g c =
+    let old = outside g.F.Files g.O.Sink g.E.Sink c.args.files.now c.args.out.now c.args.err.now in
+    let new = outside g.F.Files g.O.Sink g.E.Sink c.build.new.files c.printed.new.out c.printed.new.err in
+    built.text_written c.args.entry.now c.args.output.now c.args.jobs old new c.in-Ok.built
+    c.in-Ok.ensures.outcome c.in-Ok.ensures.built c.in-Text.field-0 c.in-Text.is c.printed.result
+    (subst (λ line. Prints line old.out new.out old.err new.err c.printed.result) c.deref.ensures.value
+    c.printed.ensures)
 
-pub returns-in-Text-clause-done : goal.returns-in-Text-clause-done
-returns-in-Text-clause-done g c = λ e.
-    let built = c.in-Ok.built in
-    let line = c.deref.ensures.value ∙ outcome.line_of built.lines.items _ built.outcome c.in-Text.field-0 c.in-Text.is c.in-Ok.ensures.says in
-    record {
-      written = outcome.written (g.F.Files.tree c.args.files.now) (g.F.Files.tree c.build.new.files) c.args.entry.now c.args.output.now built.lines.items built.outcome c.in-Text.field-0 c.in-Text.is c.in-Ok.ensures.clean c.in-Ok.ensures.leaves;
-      printed = c.printed.ensures.done e ∙ ap (λ l. longer (g.O.Sink.text c.args.out.now) l) line;
-      quiet = c.printed.ensures.quiet (λ four. omega (arith, e, four));
-    }
+pub returns-in-Ok : goal.returns-in-Ok
+returns-in-Ok g c =
+    let old = outside g.F.Files g.O.Sink g.E.Sink c.args.files.now c.args.out.now c.args.err.now in
+    let new = outside g.F.Files g.O.Sink g.E.Sink c.build.new.files c.args.out.now c.said.new.err in
+    built.refused c.args.entry.now c.args.output.now c.args.jobs old new c.in-Ok.built
+    c.in-Ok.ensures.outcome c.in-Ok.ensures.built c.in-Stopped.is refl c.said.result
+    (subst (λ lines. Says lines 1 old.err new.err c.said.result) c.deref-in-Stopped.ensures.value c.said.ensures)
 
-pub returns-in-Text-clause-on_out : goal.returns-in-Text-clause-on_out
-returns-in-Text-clause-on_out g c =
-    let built = c.in-Ok.built in
-    let line = c.deref.ensures.value ∙ outcome.line_of built.lines.items _ built.outcome c.in-Text.field-0 c.in-Text.is c.in-Ok.ensures.says in
-    inr (record {
-      written = outcome.written (g.F.Files.tree c.args.files.now) (g.F.Files.tree c.build.new.files) c.args.entry.now c.args.output.now built.lines.items built.outcome c.in-Text.field-0 c.in-Text.is c.in-Ok.ensures.clean c.in-Ok.ensures.leaves;
-      told = subst (λ l. LongerByPart (g.O.Sink.text c.args.out.now) l (g.O.Sink.text c.printed.new.out)) line c.printed.ensures.told;
-    })
+pub returns-in-Err-File : goal.returns-in-Err-File
+returns-in-Err-File g c =
+    let old = outside g.F.Files g.O.Sink g.E.Sink c.args.files.now c.args.out.now c.args.err.now in
+    let new = outside g.F.Files g.O.Sink g.E.Sink c.build.new.files c.args.out.now c.file_failed.new.err in
+    built.file_failed c.args.entry.now c.args.output.now c.args.jobs old new c.in-Err-File.field-0
+    c.in-Err-File.ensures.built refl c.in-Err-File.path c.in-Err-File.field-0-is c.file_failed.result
+    c.file_failed.ensures.status c.file_failed.ensures.told
 
-pub returns-in-Text-clause-kept : goal.returns-in-Text-clause-kept
-returns-in-Text-clause-kept g c = λ _.
-    let built = c.in-Ok.built in
-    inr (outcome.written (g.F.Files.tree c.args.files.now) (g.F.Files.tree c.build.new.files) c.args.entry.now c.args.output.now built.lines.items built.outcome c.in-Text.field-0 c.in-Text.is c.in-Ok.ensures.clean c.in-Ok.ensures.leaves)
-
--- ---- the build has none
-
-pub returns-in-Ok-clause-refused : goal.returns-in-Ok-clause-refused
-returns-in-Ok-clause-refused g c = λ e.
-    let built = c.in-Ok.built in
-    record {
-      lines = built.lines.items;
-      refusal = outcome.refusal (g.F.Files.tree c.args.files.now) c.args.entry.now c.args.output.now built.lines.items built.outcome c.in-Stopped.is c.in-Ok.ensures.clean;
-      left = outcome.unchanged (g.F.Files.tree c.args.files.now) (g.F.Files.tree c.build.new.files) _ built.lines.items built.outcome c.in-Stopped.is c.in-Ok.ensures.leaves;
-      said = c.said.ensures.said e ∙ ap (λ l. longer (g.E.Sink.text c.args.err.now) l) c.deref-in-Stopped.ensures.value;
-      quiet = refl;
-    }
-
-pub returns-in-Ok-clause-on_err : goal.returns-in-Ok-clause-on_err
-returns-in-Ok-clause-on_err g c = λ e _.
-    let built = c.in-Ok.built in
-    inr (record {
-      lines = built.lines.items;
-      refusal = outcome.refusal (g.F.Files.tree c.args.files.now) c.args.entry.now c.args.output.now built.lines.items built.outcome c.in-Stopped.is c.in-Ok.ensures.clean;
-      said = subst (λ l. LongerByPart (g.E.Sink.text c.args.err.now) l (g.E.Sink.text c.said.new.err)) c.deref-in-Stopped.ensures.value (c.said.ensures.part e);
-    })
-
--- ---- a file failed
-
-pub returns-in-Err-File-clause-failed : goal.returns-in-Err-File-clause-failed
-returns-in-Err-File-clause-failed g c = λ _. cause.file_rose _ (rw c.in-Err-File.field-0-is at c.in-Err-File.ensures).cause
-
--- ---- what the files come to is one alone
-
-pub returns-in-Text-clause-refuses : goal.returns-in-Text-clause-refuses
-returns-in-Text-clause-refuses g c = λ tree lines e refused _.
-    absurd (outcome.no_refusal (g.F.Files.tree c.args.files.now) tree c.args.entry.now c.args.output.now lines c.in-Ok.built.lines.items c.in-Ok.built.outcome c.in-Text.field-0 c.in-Text.is e c.in-Ok.ensures.only refused)
-
-pub returns-in-Ok-clause-complete : goal.returns-in-Ok-clause-complete
-returns-in-Ok-clause-complete g c = λ tree text e clean _.
-    absurd (outcome.no_text (g.F.Files.tree c.args.files.now) tree c.args.entry.now c.args.output.now text c.in-Ok.built.lines.items c.in-Ok.built.outcome c.in-Stopped.is e c.in-Ok.ensures.only clean)
+pub returns : goal.returns
+returns g c =
+    let old = outside g.F.Files g.O.Sink g.E.Sink c.args.files.now c.args.out.now c.args.err.now in
+    let new = outside g.F.Files g.O.Sink g.E.Sink c.build.new.files c.args.out.now c.out_of_memory.new.err in
+    built.out_of_memory c.args.entry.now c.args.output.now c.args.jobs old new c.in-Err-NoMemory.field-0
+    c.in-Err-NoMemory.ensures.built refl c.in-Err-NoMemory.field-0-is c.out_of_memory.result
+    c.out_of_memory.ensures.status c.out_of_memory.ensures.told

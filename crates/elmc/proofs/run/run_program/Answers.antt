@@ -1,42 +1,74 @@
-use Rattle.std.proofs.Common.{◌≡◌, inr, sym, ◌∙◌, rules}
-use Rattle.elm_run.specs.declared.course.Ended.TheVariants as ended
-use Rattle.elmc.specs.Causes as cause
+-- Each arm ends the run in one of the ways of `Ran`, by what `run` leaves and what the report then prints.
+use Rattle.std.proofs.Common.{Some, refl, subst}
+use Rattle.command_line.specs.Command.{run}
+use Rattle.elm_run.specs.RunEnd.{HasCause, IsToldIfRose, LeavesAtEnd}
+use Rattle.elmc.specs.Outside.{outside}
+use Rattle.elmc.specs.Report.{Says}
+use Rattle.elmc.proofs.Kept.{by_file_failure, unchanged}
 use Rattle.elmc.proofs.Ran as ran
 use Rattle.elmc.proofs.run.run_program.Goals as goal
 
--- ---- each input was given
+pub returns-in-Ok-Ready : goal.returns-in-Ok-Ready
+returns-in-Ok-Ready g c =
+    let old = outside g.F.Files g.O.Sink g.E.Sink c.args.files.now c.args.out.now c.args.err.now in
+    let new = outside g.F.Files g.O.Sink g.E.Sink c.run.new.files c.run.new.out c.args.err.now in
+    ran.ready c.args.program.now c.args.inputs.now c.args.fuel old new c.run.ensures.keeps c.in-Ok-Ready.field-0
+    c.in-Ok-Ready.ensures.ran c.in-Ok-Ready.ensures.no_fault.0 c.in-Ok-Ready.ensures.no_fault.1
+    c.in-Ok-Ready.field-0-is refl
 
-pub returns-in-Ok-Ready-clause-on_out : goal.returns-in-Ok-Ready-clause-on_out
-returns-in-Ok-Ready-clause-on_out g c =
-    let is : c.in-Ok-Ready.field-0 ≡ ended.Ready = search rules in
-    inr (ran.ready_told (g.F.Files.tree c.args.files.now) c.args.program.now c.args.inputs.now c.args.fuel (g.O.Sink.text c.args.out.now) (g.O.Sink.text c.run.new.out) c.in-Ok-Ready.field-0 is c.in-Ok-Ready.ensures.ran)
+pub returns-in-Ok-Stopped : goal.returns-in-Ok-Stopped
+returns-in-Ok-Stopped g c =
+    let old = outside g.F.Files g.O.Sink g.E.Sink c.args.files.now c.args.out.now c.args.err.now in
+    let new = outside g.F.Files g.O.Sink g.E.Sink c.run.new.files c.run.new.out c.args.err.now in
+    ran.stopped c.args.program.now c.args.inputs.now c.args.fuel old new c.run.ensures.keeps c.in-Ok-Stopped.field-0
+    c.in-Ok-Stopped.ensures.ran c.in-Ok-Stopped.ensures.no_fault.0 c.in-Ok-Stopped.ensures.no_fault.1
+    c.in-Ok-Stopped.field-0-is refl
 
-pub returns-in-Ok-Ready-clause-complete : goal.returns-in-Ok-Ready-clause-complete
-returns-in-Ok-Ready-clause-complete g c = λ tree outcome e runs other.
-    let is : c.in-Ok-Ready.field-0 ≡ ended.Ready = search rules in
-    absurd (other (sym (ran.ready_status (g.F.Files.tree c.args.files.now) c.args.program.now c.args.inputs.now c.args.fuel (g.O.Sink.text c.args.out.now) (g.O.Sink.text c.run.new.out) c.in-Ok-Ready.field-0 tree outcome is e c.in-Ok-Ready.ensures.ran runs)))
+pub returns-in-Ok-Refused : goal.returns-in-Ok-Refused
+returns-in-Ok-Refused g c =
+    let old = outside g.F.Files g.O.Sink g.E.Sink c.args.files.now c.args.out.now c.args.err.now in
+    let new = outside g.F.Files g.O.Sink g.E.Sink c.run.new.files c.run.new.out c.said.new.err in
+    ran.refused c.args.program.now c.args.inputs.now c.args.fuel old new c.run.ensures.keeps c.in-Ok-Refused.field-0
+    c.in-Ok-Refused.ensures.ran c.in-Ok-Refused.ensures.no_fault.0 c.in-Ok-Refused.ensures.no_fault.1
+    c.in-Ok-Refused.line c.in-Ok-Refused.field-0-is c.said.result
+    (subst (λ line. Says line 1 old.err new.err c.said.result) c.deref.ensures.value c.said.ensures)
 
--- ---- an end came before that
+pub returns-in-Err-File : goal.returns-in-Err-File
+returns-in-Err-File g c =
+    let old = outside g.F.Files g.O.Sink g.E.Sink c.args.files.now c.args.out.now c.args.err.now in
+    let new = outside g.F.Files g.O.Sink g.E.Sink c.run.new.files c.run.new.out c.file_failed.new.err in
+    let asked = Some (run c.args.program.now c.args.inputs.now c.args.fuel) in
+    by_file_failure asked old new c.in-Err-File.path c.file_failed.result c.file_failed.ensures.status
+    (subst (λ e. HasCause e old.files.faults new.files.faults old.out.faults new.out.faults) c.in-Err-File.field-0-is
+    c.in-Err-File.ensures.cause)
+    c.file_failed.ensures.told
+    (subst
+    (λ e. LeavesAtEnd e old.files.tree c.args.program.now c.args.inputs.now c.args.fuel old.out.text new.out.text)
+    c.in-Err-File.field-0-is c.in-Err-File.ensures.part)
+    (unchanged asked old.files.tree new.files.tree c.run.ensures.keeps)
 
-pub returns-in-Ok-Stopped-clause-on_out : goal.returns-in-Ok-Stopped-clause-on_out
-returns-in-Ok-Stopped-clause-on_out g c =
-    let is : c.in-Ok-Stopped.field-0 ≡ ended.Stopped = search rules in
-    inr (ran.stopped_told (g.F.Files.tree c.args.files.now) c.args.program.now c.args.inputs.now c.args.fuel (g.O.Sink.text c.args.out.now) (g.O.Sink.text c.run.new.out) c.in-Ok-Stopped.field-0 is c.in-Ok-Stopped.ensures.ran)
+pub returns-in-Err-Sink : goal.returns-in-Err-Sink
+returns-in-Err-Sink g c =
+    let old = outside g.F.Files g.O.Sink g.E.Sink c.args.files.now c.args.out.now c.args.err.now in
+    let new = outside g.F.Files g.O.Sink g.E.Sink c.run.new.files c.run.new.out c.args.err.now in
+    ran.sink_failed c.args.program.now c.args.inputs.now c.args.fuel old new c.run.ensures.keeps
+    (subst (λ e. HasCause e old.files.faults new.files.faults old.out.faults new.out.faults) c.in-Err-Sink.field-0-is
+    c.in-Err-Sink.ensures.cause)
+    (subst (λ e. IsToldIfRose e old.files.faults new.files.faults old.out.faults new.out.faults)
+    c.in-Err-Sink.field-0-is c.in-Err-Sink.ensures.told)
+    (subst
+    (λ e. LeavesAtEnd e old.files.tree c.args.program.now c.args.inputs.now c.args.fuel old.out.text new.out.text)
+    c.in-Err-Sink.field-0-is c.in-Err-Sink.ensures.part)
+    refl
 
-pub returns-in-Ok-Stopped-clause-complete : goal.returns-in-Ok-Stopped-clause-complete
-returns-in-Ok-Stopped-clause-complete g c = λ tree outcome e runs other.
-    let is : c.in-Ok-Stopped.field-0 ≡ ended.Stopped = search rules in
-    absurd (other (sym (ran.stopped_status (g.F.Files.tree c.args.files.now) c.args.program.now c.args.inputs.now c.args.fuel (g.O.Sink.text c.args.out.now) (g.O.Sink.text c.run.new.out) c.in-Ok-Stopped.field-0 tree outcome is e c.in-Ok-Stopped.ensures.ran runs)))
-
--- ---- there was no run
-
-pub returns-in-Ok-Refused-clause-complete : goal.returns-in-Ok-Refused-clause-complete
-returns-in-Ok-Refused-clause-complete g c = λ tree outcome e runs other.
-    let is : c.in-Ok-Refused.field-0 ≡ ended.Refused c.in-Ok-Refused.line = search rules in
-    let status = ran.refused_status (g.F.Files.tree c.args.files.now) c.args.program.now c.args.inputs.now c.args.fuel (g.O.Sink.text c.args.out.now) (g.O.Sink.text c.run.new.out) c.in-Ok-Refused.field-0 tree outcome c.in-Ok-Refused.line is e c.in-Ok-Refused.ensures.ran runs in
-    c.said.ensures.known (λ one. other (one ∙ sym status))
-
--- ---- a file failed
-
-pub returns-in-Err-File-clause-failed : goal.returns-in-Err-File-clause-failed
-returns-in-Err-File-clause-failed g c = λ _. cause.file_rose _ (rw c.in-Err-File.field-0-is at c.in-Err-File.ensures.cause)
+pub returns-in-Err-NoMemory : goal.returns-in-Err-NoMemory
+returns-in-Err-NoMemory g c =
+    let old = outside g.F.Files g.O.Sink g.E.Sink c.args.files.now c.args.out.now c.args.err.now in
+    let new = outside g.F.Files g.O.Sink g.E.Sink c.run.new.files c.run.new.out c.out_of_memory.new.err in
+    let told = subst (λ e. IsToldIfRose e old.files.faults new.files.faults old.out.faults new.out.faults)
+    c.in-Err-NoMemory.field-0-is c.in-Err-NoMemory.ensures.told in
+    ran.out_of_memory c.args.program.now c.args.inputs.now c.args.fuel old new c.run.ensures.keeps
+    c.out_of_memory.result c.out_of_memory.ensures.status c.out_of_memory.ensures.told told.0 told.1
+    (subst
+    (λ e. LeavesAtEnd e old.files.tree c.args.program.now c.args.inputs.now c.args.fuel old.out.text new.out.text)
+    c.in-Err-NoMemory.field-0-is c.in-Err-NoMemory.ensures.part)

@@ -1,7 +1,9 @@
--- Clean: the outcome of a build, as a fold over the modules in import order. It speaks only of the files and the words.
-use Rattle.std.specs.Prelude.{◌≡◌, ℕ, List, [], ◌∷◌, ◌++◌, MatchBool, if◌then◌else◌, Option, Some, None, nat_le, length, codes}
+-- The outcome of a build, as a fold over the modules in import order. It speaks only of the files and the words.
+use Rattle.std.specs.Prelude.{◌≡◌, ℕ, List, [], ◌∷◌, ◌++◌, MatchBool, if◌then◌else◌, Option, Some, None}
+use Rattle.std.specs.Prelude.{nat_le, length, codes}
 use Rattle.elm_base.specs.declared.fault.Code.{Code}
 use Rattle.elm_base.specs.declared.fault.Code.TheVariants.{BadOutput, EntryNotFound, NotYet as not_yet}
+use Rattle.elm_base.specs.declared.position.Pos.{Pos}
 use Rattle.elm_base.specs.Fault.{fault_line_of}
 use Rattle.elm_files.specs.Tree.{Tree}
 use Rattle.first_canon.specs.Tree.{Project}
@@ -26,7 +28,8 @@ modules_of (Text text) = 1
 -- the line of a fault without detail at the start of a file
 abbrev pub start_line : Code → List ℕ → List ℕ
 start_line code path =
-    fault_line_of (record { code = code; path = path; region = record { start = record { row = 1; column = 1 }; end = record { row = 1; column = 1 } }; detail = [] })
+    let start : Pos = record { row = 1; column = 1 } in
+    fault_line_of (record { code = code; path = path; region = record { start = start; end = start }; detail = [] })
 
 -- the text of a file, unless it is over the limit
 abbrev pub text_within : List ℕ → Option (List ℕ)
@@ -35,7 +38,9 @@ text_within text = if nat_le (length text) 4194304 then Some text else None
 -- each module, by its path and its text, with its result, in import order
 pub data Folded : List (List ℕ × Option (List ℕ)) → List (List ℕ × Result) → Type 0 where
   no_module : Folded [] []
-  one_module : {path : List ℕ} {text : Option (List ℕ)} {made : Result} {sources : List (List ℕ × Option (List ℕ))} {results : List (List ℕ × Result)} → Made text made → Folded sources results → Folded ((path, text) ∷ sources) ((path, made) ∷ results)
+  one_module : {path : List ℕ} {text : Option (List ℕ)} {made : Result}
+      {sources : List (List ℕ × Option (List ℕ))} {results : List (List ℕ × Result)} →
+      Made text made → Folded sources results → Folded ((path, text) ∷ sources) ((path, made) ∷ results)
 
 -- the lines of the faults of all modules, in import order
 abbrev pub lines_of : Result → List ℕ → List ℕ
@@ -68,7 +73,12 @@ outcome_for path None = Faulty (start_line not_yet path)
 
 -- the outcome of the modules, which stand in import order
 abbrev pub IsFoldOf : List (List ℕ × Option (List ℕ)) → Outcome → Type 0
-IsFoldOf sources outcome = (results : List (List ℕ × Result)) × Folded sources results × IsJoined (linked results) results outcome
+IsFoldOf sources outcome =
+    (results : List (List ℕ × Result)) × Folded sources results × IsJoined (linked results) results outcome
+
+-- one module, at this path and with this text
+abbrev pub one_source : List ℕ → List ℕ → List (List ℕ × Option (List ℕ))
+one_source path text = (path, Some text) ∷ []
 
 -- the entry at this path, if it is there; today it is the only module
 abbrev pub IsBuiltFrom : Option (List ℕ) → List ℕ → Outcome → Type 0
@@ -77,8 +87,8 @@ IsBuiltFrom (Some text) path outcome = IsFoldOf ((path, text_within text) ∷ []
 
 -- the first step that refuses something ends the build: the path of the output, the path of the entry, the entry, the
 -- modules
-abbrev pub Clean : Tree → List ℕ → List ℕ → Outcome → Type 0
-Clean tree entry output outcome =
+abbrev pub BuildsTo : Tree → List ℕ → List ℕ → Outcome → Type 0
+BuildsTo tree entry output outcome =
     MatchBool (is_absolute output) (outcome ≡ Stopped (start_line BadOutput output))
     (MatchBool (is_output (normal_path output))
     (MatchBool (is_absolute entry) (outcome ≡ Stopped (start_line EntryNotFound entry))
@@ -87,6 +97,6 @@ Clean tree entry output outcome =
     (outcome ≡ Stopped (start_line EntryNotFound (normal_path entry)))))
     (outcome ≡ Stopped (start_line BadOutput (normal_path output))))
 
--- the line of a finished build
+-- the line of a finished build, whose output is at this path
 abbrev pub compiled_line : List ℕ → List ℕ
-compiled_line output = codes "compiled to " ++ (normal_path output ++ codes ", modules: 1\n")
+compiled_line path = codes "compiled to " ++ (path ++ codes ", modules: 1\n")
