@@ -93,21 +93,20 @@ fn is_fault(rt: &HostRuntime, text: &[u8], code: Code, row: u32, column: u32, de
 }
 
 #[test]
-fn faults(rt: HostRuntime) {
+fn stray_characters(rt: HostRuntime) {
     assert!(&rt; is_fault(&rt, b"-- \xff", Code::NotUtf8, 1, 1, b""));
     assert!(&rt; is_fault(&rt, b"a\n \tb", Code::Tab, 2, 2, b""));
     assert!(&rt; is_fault(&rt, b"a #", Code::Syntax, 1, 3, b""));
     assert!(&rt; is_fault(&rt, "\u{e9}".as_bytes(), Code::Syntax, 1, 1, b""));
+    assert!(&rt; is_fault(&rt, b"r.type", Code::Syntax, 1, 2, b""));
+}
+
+#[test]
+fn faults_of_numbers(rt: HostRuntime) {
     assert!(&rt; is_fault(&rt, b"x = 1.5", Code::FloatLiteral, 1, 5, b"1.5"));
     assert!(&rt; is_fault(&rt, b"1e3", Code::FloatLiteral, 1, 1, b"1e3"));
     assert!(&rt; is_fault(&rt, b"1.5e-3+1", Code::FloatLiteral, 1, 1, b"1.5e-3"));
     assert!(&rt; is_fault(&rt, b"2E+10", Code::FloatLiteral, 1, 1, b"2E+10"));
-    assert!(&rt; is_fault(&rt, b"1.5x", Code::Syntax, 1, 1, b""));
-    assert!(&rt; is_fault(&rt, b"1e-3x", Code::Syntax, 1, 1, b""));
-    assert!(&rt; is_fault(&rt, b"007", Code::Syntax, 1, 1, b""));
-    assert!(&rt; is_fault(&rt, b"12a", Code::Syntax, 1, 1, b""));
-    assert!(&rt; is_fault(&rt, b"0x", Code::Syntax, 1, 1, b""));
-    assert!(&rt; is_fault(&rt, b"_x", Code::Syntax, 1, 1, b""));
     assert!(&rt;
         is_fault(
             &rt,
@@ -128,20 +127,41 @@ fn faults(rt: HostRuntime) {
             b"0x20000000000000"
         )
     );
-    assert!(&rt; is_fault(&rt, b"r.type", Code::Syntax, 1, 2, b""));
+}
+
+#[test]
+fn pieces_that_are_no_tokens(rt: HostRuntime) {
+    assert!(&rt; is_fault(&rt, b"1.5x", Code::Syntax, 1, 1, b""));
+    assert!(&rt; is_fault(&rt, b"1e-3x", Code::Syntax, 1, 1, b""));
+    assert!(&rt; is_fault(&rt, b"007", Code::Syntax, 1, 1, b""));
+    assert!(&rt; is_fault(&rt, b"12a", Code::Syntax, 1, 1, b""));
+    assert!(&rt; is_fault(&rt, b"0x", Code::Syntax, 1, 1, b""));
+    assert!(&rt; is_fault(&rt, b"_x", Code::Syntax, 1, 1, b""));
+}
+
+#[test]
+fn literals_and_comments_without_an_end(rt: HostRuntime) {
     assert!(&rt; is_fault(&rt, b"a {- {- -}", Code::Unclosed, 1, 3, b""));
     assert!(&rt; is_fault(&rt, b"\"abc\nd\"", Code::Unclosed, 1, 1, b""));
     assert!(&rt; is_fault(&rt, b"\"abc\\\"", Code::Unclosed, 1, 1, b""));
     assert!(&rt; is_fault(&rt, b" \"\"\"abc\n\\\"\"\"", Code::Unclosed, 1, 2, b""));
+}
+
+#[test]
+fn faults_of_characters(rt: HostRuntime) {
     assert!(&rt; is_fault(&rt, b"'a", Code::Unclosed, 1, 1, b""));
     assert!(&rt; is_fault(&rt, b"'ab'", Code::Syntax, 1, 1, b""));
     assert!(&rt; is_fault(&rt, b"''", Code::Syntax, 1, 1, b""));
     assert!(&rt; is_fault(&rt, b"'\t'", Code::Tab, 1, 2, b""));
     assert!(&rt; is_fault(&rt, b"'\ta'", Code::Syntax, 1, 1, b""));
-    assert!(&rt; is_fault(&rt, b"'\\q'", Code::BadEscape, 1, 2, b""));
     assert!(&rt; is_fault(&rt, b"'a\\q'", Code::Syntax, 1, 1, b""));
     assert!(&rt; is_fault(&rt, b"'\\n\\n'", Code::Syntax, 1, 1, b""));
     assert!(&rt; is_fault(&rt, b"'\\u{0041}a'", Code::Syntax, 1, 1, b""));
+}
+
+#[test]
+fn bad_escapes(rt: HostRuntime) {
+    assert!(&rt; is_fault(&rt, b"'\\q'", Code::BadEscape, 1, 2, b""));
     assert!(&rt;
         is_fault(
             &rt,
@@ -167,11 +187,9 @@ fn is_token(token: &Token, kind: Kind, text: &[u8], before: bool, after: bool) -
 }
 
 #[test]
-fn kinds(rt: HostRuntime) -> Result<(), Fail> {
-    let text =
-        "r.x .y 0x1e-3 1. ..a \"\t\" '\"' '\\'' '\\u{1F600}' \"\"\"a\"b\n\"\"\" \"\" 'é' 1.x".as_bytes();
-    let found = tokens(rt.alloc(), text)?;
-    assert_eq!(rt; found.len(), 19);
+fn dots_and_signs(rt: HostRuntime) -> Result<(), Fail> {
+    let found = tokens(rt.alloc(), b"r.x .y 0x1e-3 1. ..a 1.x")?;
+    assert_eq!(rt; found.len(), 12);
     assert!(rt; is_token(&found[0], Kind::LowerName, b"r", false, false));
     assert!(rt; is_token(&found[1], Kind::Field, b".x", false, true));
     assert!(rt; is_token(&found[2], Kind::Field, b".y", true, true));
@@ -182,15 +200,23 @@ fn kinds(rt: HostRuntime) -> Result<(), Fail> {
     assert!(rt; is_token(&found[7], Kind::Dot, b".", false, true));
     assert!(rt; is_token(&found[8], Kind::Dots, b"..", true, false));
     assert!(rt; is_token(&found[9], Kind::LowerName, b"a", false, true));
-    assert!(rt; is_token(&found[10], Kind::Text, b"\"\t\"", true, true));
-    assert!(rt; is_token(&found[11], Kind::Char, b"'\"'", true, true));
-    assert!(rt; is_token(&found[12], Kind::Char, b"'\\''", true, true));
-    assert!(rt; is_token(&found[13], Kind::Char, b"'\\u{1F600}'", true, true));
-    assert!(rt; is_token(&found[14], Kind::Text, b"\"\"\"a\"b\n\"\"\"", true, true));
-    assert!(rt; is_token(&found[15], Kind::Text, b"\"\"", true, true));
-    assert!(rt; is_token(&found[16], Kind::Char, "'é'".as_bytes(), true, true));
-    assert!(rt; is_token(&found[17], Kind::Int(1), b"1", true, false));
-    assert!(rt; is_token(&found[18], Kind::Field, b".x", false, false));
+    assert!(rt; is_token(&found[10], Kind::Int(1), b"1", true, false));
+    assert!(rt; is_token(&found[11], Kind::Field, b".x", false, false));
+    Ok(())
+}
+
+#[test]
+fn literals(rt: HostRuntime) -> Result<(), Fail> {
+    let text = "\"\t\" '\"' '\\'' '\\u{1F600}' \"\"\"a\"b\n\"\"\" \"\" 'é'".as_bytes();
+    let found = tokens(rt.alloc(), text)?;
+    assert_eq!(rt; found.len(), 7);
+    assert!(rt; is_token(&found[0], Kind::Text, b"\"\t\"", false, true));
+    assert!(rt; is_token(&found[1], Kind::Char, b"'\"'", true, true));
+    assert!(rt; is_token(&found[2], Kind::Char, b"'\\''", true, true));
+    assert!(rt; is_token(&found[3], Kind::Char, b"'\\u{1F600}'", true, true));
+    assert!(rt; is_token(&found[4], Kind::Text, b"\"\"\"a\"b\n\"\"\"", true, true));
+    assert!(rt; is_token(&found[5], Kind::Text, b"\"\"", true, true));
+    assert!(rt; is_token(&found[6], Kind::Char, "'é'".as_bytes(), true, false));
     Ok(())
 }
 
