@@ -224,13 +224,8 @@ fn literals(rt: HostRuntime) -> Result<(), Fail> {
 fn values(rt: HostRuntime) -> Result<(), Fail> {
     let units = literal_units(rt.alloc(), b"\"a\\n\\r\\t\\\"\\'\\\\\"")?;
     assert!(rt; units.as_slice() == [97, 10, 13, 9, 34, 39, 92].as_slice());
-    let units = literal_units(
-        rt.alloc(),
-        "\"\"\"\u{1F600}\\u{1f600}\r\n\\u{D800}\"u\"\"\"".as_bytes(),
-    )?;
-    assert!(rt;
-        units.as_slice() == [0xD83D, 0xDE00, 0xD83D, 0xDE00, 13, 10, 0xD800, 34, 117].as_slice()
-    );
+    let units = literal_units(rt.alloc(), b"\"\"\"\\u{1f600}\r\n\\u{D800}\"u\"\"\"")?;
+    assert!(rt; units.as_slice() == [0xD83D, 0xDE00, 13, 10, 0xD800, 34, 117].as_slice());
     let units = literal_units(rt.alloc(), b"\"\"")?;
     assert!(rt; units.as_slice().is_empty());
     let units = literal_units(rt.alloc(), b"'\\u{10FFFF}'")?;
