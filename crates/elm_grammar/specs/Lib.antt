@@ -1,7 +1,0 @@
-pub mod Classes
-pub mod Table
-pub mod Values
-pub mod Kinded
-pub mod Meaning
-pub mod Search
-pub mod Examples
