@@ -1,0 +1,7 @@
+use Rattle.std.specs.Prelude.{refl}
+use Rattle.elm_grammar.specs.Values.{takes, gives}
+use Rattle.elm_grammar.proofs.laws.kinds_law.Goals as goal
+
+pub returns : goal.returns
+unfolding takes gives
+returns c = refl

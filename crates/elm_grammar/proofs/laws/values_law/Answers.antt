@@ -1,0 +1,6 @@
+use Rattle.elm_grammar.proofs.Sense.{has_meaning}
+use Rattle.elm_grammar.proofs.Found.{one_value, read_so}
+use Rattle.elm_grammar.proofs.laws.values_law.Goals as goal
+
+pub returns : goal.returns
+returns c = record { some = λ tokens n c x ts d. has_meaning tokens d; one = one_value; computed = read_so }
