@@ -45,7 +45,8 @@ impl From<AllocError> for Ungrouped {
     }
 }
 
-fn text_at<'a>(tokens: &[Token<'a>], word: Word) -> &'a [u8]
+/// The text of a word.
+pub fn text_at<'a>(tokens: &[Token<'a>], word: Word) -> &'a [u8]
     ensures { result.now ≡ (word_view (tokens_view tokens.now) word).text }
 {
     match tokens.get(word.index as usize) {
@@ -54,7 +55,8 @@ fn text_at<'a>(tokens: &[Token<'a>], word: Word) -> &'a [u8]
     }
 }
 
-fn strength_at(tokens: &[Token<'_>], word: Word) -> Strength
+/// How the operator that a word is groups.
+pub fn strength_at(tokens: &[Token<'_>], word: Word) -> Strength
     ensures level { result.level ≡ level_of (word_view (tokens_view tokens.now) word) }
     ensures side { result.side ≡ side_of (word_view (tokens_view tokens.now) word) }
 {
@@ -62,7 +64,7 @@ fn strength_at(tokens: &[Token<'_>], word: Word) -> Strength
 }
 
 /// Whether operators of one level do not group, the first before the second.
-fn differ(before: Side, after: Side) -> bool
+pub fn differ(before: Side, after: Side) -> bool
     ensures { result ≡ clash_of before after }
 {
     match (before, after) {

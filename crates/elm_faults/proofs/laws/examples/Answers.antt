@@ -1,0 +1,15 @@
+use Rattle.std.specs.Prelude.{refl}
+use Rattle.elm_tree.specs.Regroup.{row_of}
+use Rattle.elm_faults.specs.Faults.{faults_of}
+use Rattle.elm_faults.proofs.laws.examples.Goals as goal
+
+pub returns : goal.returns
+unfolding row_of faults_of
+returns c = record {
+  four_parts = refl;
+  three_parts = refl;
+  comparisons = refl;
+  lone_in_let = refl;
+  with_definition = refl;
+  lone_at_end = refl;
+}
