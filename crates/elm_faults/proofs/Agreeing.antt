@@ -56,55 +56,55 @@ same_select P (Line n) leading c t ts us = refl
 same_select P (Block n) inside c t ts us = refl
 same_select P (Block n) leading c t ts us = refl
 
-same_choice : (p q : ℕ) (l k : Place) (b c : ℕ) → Some (choice p l b) ≡ Some (choice q k c) →
+pub same_choice : (p q : ℕ) (l k : Place) (b c : ℕ) → Some (choice p l b) ≡ Some (choice q k c) →
     (p ≡ q) × (l ≡ k) × (b ≡ c)
 same_choice p q l k b c e = (cc, cc, cc)
 
 -- the second derivation at a symbol that is no word
-record Second (g : List Production) (m : Place) (c : ℕ) (s : Symbol) (ss : List Symbol) (S : List Frame)
+pub record Second (g : List Production) (m : Place) (c : ℕ) (s : Symbol) (ss : List Symbol) (S : List Frame)
     (ys : List Tree) (us : List Token) : Type 0 where
-  asked : ℕ
-  taken : ℕ
-  place : Place
-  column : ℕ
-  right : List Symbol
-  x : Tree
-  y : Tree
-  others : List Tree
-  calls : Calls m c s asked place column
-  is : Is g taken asked right
-  reads : Reads g (frame right column place ∷ frame ss c inside ∷ S) (x ∷ y ∷ others) us
-  trees : ys ≡ node taken x y ∷ others
+  pub asked : ℕ
+  pub taken : ℕ
+  pub place : Place
+  pub column : ℕ
+  pub right : List Symbol
+  pub x : Tree
+  pub y : Tree
+  pub others : List Tree
+  pub calls : Calls m c s asked place column
+  pub is : Is g taken asked right
+  pub reads : Reads g (frame right column place ∷ frame ss c inside ∷ S) (x ∷ y ∷ others) us
+  pub trees : ys ≡ node taken x y ∷ others
 
-second : (g : List Production) {m l : Place} {c b n : ℕ} {s : Symbol} {ss : List Symbol} {S : List Frame} (ys : List Tree)
+pub second : (g : List Production) {m l : Place} {c b n : ℕ} {s : Symbol} {ss : List Symbol} {S : List Frame} (ys : List Tree)
     {us : List Token} → Calls m c s n l b → Reads g (frame (s ∷ ss) c m ∷ S) ys us → Second g m c s ss S ys us
 second g _ k (a_node {l = l} {b = b} {n = n} {p = p} {r = r} {x = x} {y = y} {xs = xs} j i d) =
     record { asked = n; taken = p; place = l; column = b; right = r; x = x; y = y; others = xs; calls = j; is = i; reads = d; trees = refl }
 second g _ k (a_word e st d) = elim k [ ]
 
 -- the same at a word
-record SecondWord (g : List Production) (m : Place) (c k : ℕ) (ss : List Symbol) (S : List Frame) (ys : List Tree)
+pub record SecondWord (g : List Production) (m : Place) (c k : ℕ) (ss : List Symbol) (S : List Frame) (ys : List Tree)
     (us : List Token) : Type 0 where
-  token : Token
-  rest : List Token
-  x : Tree
-  others : List Tree
-  reads : Reads g (frame ss c inside ∷ S) (x ∷ others) rest
-  trees : ys ≡ word token x ∷ others
-  tokens : us ≡ token ∷ rest
+  pub token : Token
+  pub rest : List Token
+  pub x : Tree
+  pub others : List Tree
+  pub reads : Reads g (frame ss c inside ∷ S) (x ∷ others) rest
+  pub trees : ys ≡ word token x ∷ others
+  pub tokens : us ≡ token ∷ rest
 
-second_word : (g : List Production) {m : Place} {c k : ℕ} {ss : List Symbol} {S : List Frame} (ys : List Tree)
+pub second_word : (g : List Production) {m : Place} {c k : ℕ} {ss : List Symbol} {S : List Frame} (ys : List Tree)
     {us : List Token} → Reads g (frame (Word k ∷ ss) c m ∷ S) ys us → SecondWord g m c k ss S ys us
 second_word g _ (a_word {t = t} {x = x} {xs = xs} {ts = ts} e st d) =
     record { token = t; rest = ts; x = x; others = xs; reads = d; trees = refl; tokens = refl }
 second_word g _ (a_node k i d) = elim k [ ]
 
-record SecondClosed (g : List Production) (S : List Frame) (ys : List Tree) (us : List Token) : Type 0 where
-  others : List Tree
-  reads : Reads g S others us
-  trees : ys ≡ leaf ∷ others
+pub record SecondClosed (g : List Production) (S : List Frame) (ys : List Tree) (us : List Token) : Type 0 where
+  pub others : List Tree
+  pub reads : Reads g S others us
+  pub trees : ys ≡ leaf ∷ others
 
-second_closed : (g : List Production) {m : Place} {c : ℕ} {S : List Frame} (ys : List Tree) {us : List Token} →
+pub second_closed : (g : List Production) {m : Place} {c : ℕ} {S : List Frame} (ys : List Tree) {us : List Token} →
     Reads g (frame [] c m ∷ S) ys us → SecondClosed g S ys us
 second_closed g _ (closed {xs = xs} d) = record { others = xs; reads = d; trees = refl }
 

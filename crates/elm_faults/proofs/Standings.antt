@@ -167,7 +167,7 @@ text_of n c front (x, more, d) =
 
 -- ---- which text goes on
 
-ready : (rows : List Row) → planned elm rows ≡ true → (n c : ℕ) → n < length rows →
+pub ready : (rows : List Row) → planned elm rows ≡ true → (n c : ℕ) → n < length rows →
     Good elm (plan_of rows) (start (Part n ∷ []) c)
 ready rows e n c h =
     (tt, (start_ends elm rows e n h, (λ xs t ts d. absurd (no_more c xs t ts (t ∷ ts) d refl)), tt), tt)
@@ -223,12 +223,12 @@ whichever rows e tokens n c l front x more y d s h w =
 -- ---- fronts
 
 -- of two fronts of a list, one begins the other
-abbrev Compared : List machine.Token → List machine.Token → List machine.Token → Type 0
+abbrev pub Compared : List machine.Token → List machine.Token → List machine.Token → Type 0
 Compared front at other =
     ((z : List machine.Token) × (front ≡ other ++ z))
     ⊎ ((u : machine.Token) × (z : List machine.Token) × (more : List machine.Token) × (other ≡ front ++ u ∷ z) × (at ≡ u ∷ more))
 
-compared : (front at other others : List machine.Token) → front ++ at ≡ other ++ others → Compared front at other
+pub compared : (front at other others : List machine.Token) → front ++ at ≡ other ++ others → Compared front at other
 compared front at [] others e = inl (front, refl)
 compared [] at (u ∷ other) others e = inr (u, other, other ++ others, refl, e)
 compared (t ∷ front) at (u ∷ other) others e = by (compared front at other others (let f : front ++ at ≡ other ++ others = cc in f))

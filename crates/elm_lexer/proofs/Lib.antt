@@ -14,4 +14,6 @@ pub mod Loop
 pub mod Names
 pub mod Total
 pub mod Values
+pub mod Scanned
+pub mod Single
 pub mod Spelled

@@ -11,7 +11,7 @@ use Rattle.elm_lexer.specs.declared.token.Kind.{Kind}
 use Rattle.elm_lexer.specs.declared.token.Kind.TheVariants.{Int, Text, Char, LowerName, UpperName, QualifiedLower, QualifiedUpper, Backslash, Operator}
 use Rattle.elm_lexer.specs.Characters.{is_letter, is_digit, is_mark, is_operator_char}
 use Rattle.elm_lexer.specs.Kinds.{kind_in, reserved_kinds, marks, operators, begins_upper, begins_field, field_of, field_kind, last_word, name_kind, number_value, int_of, wildcard_kind, kind_of}
-use Rattle.elm_lexer.specs.Literals.{begins_literal, begins_lines, literal_length, bad_escape, literal_body, SpellsLiteral}
+use Rattle.elm_lexer.specs.Literals.{begins_literal, begins_lines, literal_length, bad_escape, begins_text, literal_body, SpellsLiteral}
 use Rattle.elm_lexer.specs.Names.{SpellsValue, AreValues}
 use Rattle.elm_lexer.specs.Tokens.{Place, Token, Fault, Reads, no_more, gap, open_comment, token, fault, token_at, Tokens}
 use Rattle.elm_lexer.proofs.Basics.{true_false, front_of}
@@ -128,7 +128,7 @@ lines_body body = rw long inner
     inner = take_at body (34 ∷ 34 ∷ 34 ∷ []) (length (34 ∷ 34 ∷ 34 ∷ (body ++ 34 ∷ 34 ∷ 34 ∷ [])) - 6) (omega (arith, size))
 
 -- a quote is no backslash
-quote_plain : (c : ℕ) → (c == 34 || c == 39) ≡ true → (c == 92) ≡ false
+pub quote_plain : (c : ℕ) → (c == 34 || c == 39) ≡ true → (c == 92) ≡ false
 quote_plain c e = grind (arith, nat_tests)
 
 no_lines : (t x r : List ℕ) → t ≡ x ++ r → begins_lines t ≡ false → begins_lines x ≡ false
@@ -150,13 +150,14 @@ pub record Quoted (t : List ℕ) (n : ℕ) : Type 0 where
   pub text : IsUtf8 body
   pub scan : bad_escape false 0 (take n t) ≡ bad_escape false count (body ++ mark ∷ after)
   pub closed : is_open false body ≡ false
+  pub single : begins_text (take n t) ≡ false → take n t ≡ mark ∷ (body ++ mark ∷ [])
 
 pub literal_quoted : (t : List ℕ) (n : ℕ) → IsUtf8 t → begins_literal t ≡ true → literal_length t ≡ Some n → Quoted t n
 literal_quoted [] n u b l = absurd cc
 literal_quoted (c ∷ cs) n u b l = at (begins_lines (c ∷ cs)) refl
   where
-    quoted : (x body after : List ℕ) (q m : ℕ) → x ≡ take n (c ∷ cs) → (q == 34 || q == 39) ≡ true → 2 ≤ length x → literal_body x ≡ body → IsUtf8 body → bad_escape false 0 x ≡ bad_escape false m (body ++ q ∷ after) → is_open false body ≡ false → Quoted (c ∷ cs) n
-    quoted x body after q m e k long i v s o =
+    quoted : (x body after : List ℕ) (q m : ℕ) → x ≡ take n (c ∷ cs) → (q == 34 || q == 39) ≡ true → 2 ≤ length x → literal_body x ≡ body → IsUtf8 body → bad_escape false 0 x ≡ bad_escape false m (body ++ q ∷ after) → is_open false body ≡ false → (begins_text x ≡ false → x ≡ q ∷ (body ++ q ∷ [])) → Quoted (c ∷ cs) n
+    quoted x body after q m e k long i v s o one =
         record {
           mark = q;
           body = body;
@@ -168,6 +169,7 @@ literal_quoted (c ∷ cs) n u b l = at (begins_lines (c ∷ cs)) refl
           text = v;
           scan = subst (λ y. bad_escape false 0 y ≡ bad_escape false m (body ++ q ∷ after)) e s;
           closed = o;
+          single = subst (λ y. begins_text y ≡ false → y ≡ q ∷ (body ++ q ∷ [])) e one;
         }
 
     of_lines : begins_lines (c ∷ cs) ≡ true → Closed false (drop 2 cs) 3 n → Quoted (c ∷ cs) n
@@ -178,7 +180,7 @@ literal_quoted (c ∷ cs) n u b l = at (begins_lines (c ∷ cs)) refl
         let front = front_of (c ∷ cs) (34 ∷ 34 ∷ 34 ∷ (w.body ++ 34 ∷ 34 ∷ 34 ∷ [])) w.rest n cut size in
         let text : IsUtf8 (34 ∷ 34 ∷ 34 ∷ (w.body ++ 34 ∷ 34 ∷ 34 ∷ w.rest)) = subst (λ y. IsUtf8 y) whole u in
         let inside = behind_ascii 34 _ (omega arith) (behind_ascii 34 _ (omega arith) (behind_ascii 34 _ (omega arith) text)) in
-        quoted (34 ∷ 34 ∷ 34 ∷ (w.body ++ 34 ∷ 34 ∷ 34 ∷ [])) w.body (34 ∷ 34 ∷ []) 34 3 front.0 refl (omega (arith, size, w.long)) (lines_body w.body) (up_to_ascii w.body 34 (34 ∷ 34 ∷ w.rest) (omega arith) inside) refl w.closed
+        quoted (34 ∷ 34 ∷ 34 ∷ (w.body ++ 34 ∷ 34 ∷ 34 ∷ [])) w.body (34 ∷ 34 ∷ []) 34 3 front.0 refl (omega (arith, size, w.long)) (lines_body w.body) (up_to_ascii w.body 34 (34 ∷ 34 ∷ w.rest) (omega arith) inside) refl w.closed (λ k. absurd cc)
 
     of_line : begins_lines (c ∷ cs) ≡ false → LineEnd c false cs 1 n → Quoted (c ∷ cs) n
     of_line k w =
@@ -187,7 +189,7 @@ literal_quoted (c ∷ cs) n u b l = at (begins_lines (c ∷ cs)) refl
         let front = front_of (c ∷ cs) (c ∷ (w.body ++ c ∷ [])) w.rest n cut size in
         let inside : IsUtf8 (w.body ++ c ∷ w.rest) = subst (λ y. IsUtf8 y) w.whole (behind_ascii c cs (quote_low c b) u) in
         let scan : bad_escape false 0 (c ∷ (w.body ++ c ∷ [])) ≡ bad_escape false 1 (w.body ++ c ∷ []) = rw (quote_plain c b) refl in
-        quoted (c ∷ (w.body ++ c ∷ [])) w.body [] c 1 front.0 b (omega (arith, size, w.long)) (line_body c c w.body (no_lines (c ∷ cs) (c ∷ (w.body ++ c ∷ [])) w.rest cut k)) (up_to_ascii w.body c w.rest (quote_low c b) inside) scan w.closed
+        quoted (c ∷ (w.body ++ c ∷ [])) w.body [] c 1 front.0 b (omega (arith, size, w.long)) (line_body c c w.body (no_lines (c ∷ cs) (c ∷ (w.body ++ c ∷ [])) w.rest cut k)) (up_to_ascii w.body c w.rest (quote_low c b) inside) scan w.closed (λ _. refl)
 
     at : (x : Bool) → begins_lines (c ∷ cs) ≡ x → Quoted (c ∷ cs) n
     at true k = of_lines k (lines_closed false 3 (drop 2 cs) n (rw k at l))

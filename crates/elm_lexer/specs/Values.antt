@@ -35,10 +35,14 @@ pub data Spells : List ℕ → List ℕ → Type 0 where
   -- \u{H}: 4 to 6 hexadecimal digits, which spell a code up to 10FFFF
   code : (digits : List ℕ) {cs units : List ℕ} → IsTrue (list_all is_hex_digit digits) → 4 ≤ length digits → length digits ≤ 6 → number_from 16 0 digits ≤ 1114111 → Spells cs units → Spells (92 ∷ 117 ∷ 123 ∷ (digits ++ 125 ∷ cs)) (encode_utf16 (number_from 16 0 digits) ++ units)
 
--- the bytes spell their units, where the kind is that of a text or a character
+-- the units are those of one code
+abbrev pub IsOne : List ℕ → Type 0
+IsOne units = (c : ℕ) × (c ≤ 1114111) × (units ≡ encode_utf16 c)
+
+-- the bytes spell their units, where the kind is that of a text or a character, and a character has one code
 abbrev pub SpellsUnits : Kind → List ℕ → Type 0
 SpellsUnits Text bytes = Spells (chars (literal_body bytes)) (literal_units bytes)
-SpellsUnits Char bytes = Spells (chars (literal_body bytes)) (literal_units bytes)
+SpellsUnits Char bytes = Spells (chars (literal_body bytes)) (literal_units bytes) × IsOne (literal_units bytes)
 SpellsUnits _ bytes = ⊤
 
 -- each text and character spells its value

@@ -36,8 +36,8 @@ pub fn values_law()
     ensures { (text : List ℕ) (ts : List Token) → Tokens text ts → AreValues ts }
 {}
 
-/// Each text spells its value: its escapes are those of the language, and its units are what its characters and
-/// escapes stand for.
+/// Each text and each character spells its value: its escapes are those of the language, and its units are what its
+/// characters and escapes stand for. A character has one code.
 pub fn spelled_law()
     ensures { (text : List ℕ) (ts : List Token) → Tokens text ts → AreSpelled ts }
 {}

@@ -18,7 +18,8 @@ pub mod reading;
 pub mod token;
 pub mod units;
 
-pub use error::{LexError, LexFault};
+pub use error::{TextError, TextFault};
 pub use lexer::tokens;
+pub use place::behind;
 pub use token::{Kind, Token};
 pub use units::literal_units;

@@ -29,7 +29,7 @@ fn behind_byte(place: Pos, c: u8) -> Pos
 }
 
 /// The place after a stretch of text that begins at a place.
-pub(crate) fn behind(place: Pos, text: &[u8]) -> Pos
+pub fn behind(place: Pos, text: &[u8]) -> Pos
     requires row { place.row + length text.now < 2 ^ 32 }
     requires column { place.column + length text.now < 2 ^ 32 }
     ensures place { place_view result ≡ behind (place_view place) text.now }

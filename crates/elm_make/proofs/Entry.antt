@@ -4,12 +4,11 @@ use Rattle.std.specs.Prelude.{if◌then◌else◌, IsSomeAnd}
 use Rattle.std.specs.declared.vec.Vec.{Vec}
 use Rattle.std.specs.declared.alloc.Global.{Global}
 use Rattle.std.proofs.lemmas.Bool.{le-leb, lt-leb}
-use Rattle.elm_base.specs.declared.fault.Code.TheVariants.{NotYet as not_yet}
+use Rattle.elm_base.specs.declared.fault.Code.TheVariants.{FileTooLarge}
 use Rattle.elm_files.specs.declared.outside.Got.{Got}
 use Rattle.elm_files.specs.declared.outside.Got.TheVariants.{Bytes, TooLong}
 use Rattle.elm_files.specs.Tree.{IsReadOf}
-use Rattle.first_compile.specs.Made.{Result, NotYet, Made, too_long}
-use Rattle.elm_make.specs.BuildsTo.{Outcome, Faulty, start_line, text_within, IsFoldOf, IsBuiltFrom, one_source}
+use Rattle.elm_make.specs.BuildsTo.{Outcome, Faulty, start_fault, start_line, too_long, text_within, IsFoldOf, IsBuiltFrom, one_source}
 use Rattle.elm_make.specs.End.{IsOnly}
 use Rattle.elm_make.proofs.Folds.{bad_fold}
 
@@ -29,18 +28,14 @@ read_built file path bytes got is read outcome fold =
     subst (λ text. IsOnly (IsFoldOf ((path, text) ∷ [])) outcome) (sym (text_within_limit bytes.items found.1)) fold in
     subst (λ f. IsOnly (IsBuiltFrom f path) outcome) (sym found.0) within
 
--- a module over the limit has faults, and is nothing else
-only_faulty : (made : Result) → Made None made → made ≡ NotYet
-only_faulty made too_long = refl
-
 over_limit_built : (file : Option (List ℕ)) (path : List ℕ) → IsSomeAnd file (λ text. 4194304 < length text) →
-    IsOnly (IsBuiltFrom file path) (Faulty (start_line not_yet path))
+    IsOnly (IsBuiltFrom file path) (Faulty (start_line FileTooLarge path))
 over_limit_built None path long = absurd long
 over_limit_built (Some text) path long =
-    subst (λ t. IsOnly (IsFoldOf ((path, t) ∷ [])) (Faulty (start_line not_yet path))) (sym (text_over_limit text long))
-    (bad_fold path None too_long only_faulty)
+    subst (λ t. IsOnly (IsFoldOf ((path, t) ∷ [])) (Faulty (start_line FileTooLarge path)))
+    (sym (text_over_limit text long)) (bad_fold path None (start_fault FileTooLarge) too_long)
 
--- a file that is too long gives the fault of its module
+-- a file that is too long is refused for that
 pub too_long_built : (file : Option (List ℕ)) (path : List ℕ) (got : Got) → got ≡ TooLong →
-    IsReadOf file 4194304 got → IsOnly (IsBuiltFrom file path) (Faulty (start_line not_yet path))
+    IsReadOf file 4194304 got → IsOnly (IsBuiltFrom file path) (Faulty (start_line FileTooLarge path))
 too_long_built file path got is read = over_limit_built file path (subst (λ g. IsReadOf file 4194304 g) is read)

@@ -10,3 +10,5 @@ pub mod Folds
 pub mod Steps
 -- parts of a path joined by slashes
 pub mod Joins
+-- a module gives one result
+pub mod Given

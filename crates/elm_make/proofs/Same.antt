@@ -3,10 +3,8 @@ use Rattle.std.proofs.Common.{◌≡◌, ℕ, List, [], ◌∷◌, Option, Some,
 use Rattle.elm_base.specs.declared.fault.Code.TheVariants.{BadOutput, EntryNotFound}
 use Rattle.elm_files.specs.Tree.{Tree}
 use Rattle.first_canon.specs.Tree.{Project}
-use Rattle.first_compile.specs.Made.{Result, Made}
-use Rattle.first_compile.proofs.Same.{same_made}
 use Rattle.elm_make.specs.Paths.{normal_path, is_absolute, is_output, is_entry}
-use Rattle.elm_make.specs.BuildsTo.{Outcome, Text, start_line, text_within, Folded, no_module, one_module}
+use Rattle.elm_make.specs.BuildsTo.{Outcome, Text, start_line, text_within, ModuleResult, Gives, Folded, no_module, one_module}
 use Rattle.elm_make.specs.BuildsTo.{IsJoined, linked, IsFoldOf, IsBuiltFrom, BuildsTo}
 use Rattle.elm_make.proofs.Folds.{folded_one}
 use Rattle.elm_make.proofs.Steps.{steps_same}
@@ -14,15 +12,16 @@ use Rattle.elm_make.proofs.Steps.{steps_same}
 -- the fold over one module, by the result of the module
 pub of_one : {P : Type 0} (path : List ℕ) (text : Option (List ℕ)) (outcome : Outcome) →
     IsFoldOf ((path, text) ∷ []) outcome →
-    ((made : Result) → Made text made → IsJoined (linked ((path, made) ∷ [])) ((path, made) ∷ []) outcome → P) → P
+    ((result : ModuleResult) → Gives text result →
+    IsJoined (linked ((path, result) ∷ [])) ((path, result) ∷ []) outcome → P) → P
 of_one {P} path text outcome f go = by f.0 f.1 f.2
   where
-    by : (results : List (List ℕ × Result)) → Folded ((path, text) ∷ []) results →
+    by : (results : List (List ℕ × ModuleResult)) → Folded ((path, text) ∷ []) results →
         IsJoined (linked results) results outcome → P
-    by _ (one_module {made = made} m no_module) joined = go made m joined
+    by _ (one_module {result = result} m no_module) joined = go result m joined
 
 -- results that are joined have one outcome
-joined_same : (entry : Option Project) (results : List (List ℕ × Result)) (a b : Outcome) →
+joined_same : (entry : Option Project) (results : List (List ℕ × ModuleResult)) (a b : Outcome) →
     IsJoined entry results a → IsJoined entry results b → a ≡ b
 joined_same (Some p) results a b j k = j.2 ∙ ap Text (j.1 ∙ sym k.1) ∙ sym k.2
 joined_same None results a b j k = j ∙ sym k
@@ -31,11 +30,11 @@ fold_same : (path : List ℕ) (text : Option (List ℕ)) (a b : Outcome) →
     IsFoldOf ((path, text) ∷ []) a → IsFoldOf ((path, text) ∷ []) b → a ≡ b
 fold_same path text a b f g =
     of_one path text a f
-    (λ made m j.
-    let same = folded_one path text made (λ other k. same_made text other made k m) g.0 g.1 in
-    let k : IsJoined (linked ((path, made) ∷ [])) ((path, made) ∷ []) b =
+    (λ result m j.
+    let same = folded_one path text result m g.0 g.1 in
+    let k : IsJoined (linked ((path, result) ∷ [])) ((path, result) ∷ []) b =
     subst (λ rs. IsJoined (linked rs) rs b) same g.2 in
-    joined_same (linked ((path, made) ∷ [])) ((path, made) ∷ []) a b j k)
+    joined_same (linked ((path, result) ∷ [])) ((path, result) ∷ []) a b j k)
 
 built_same : (file : Option (List ℕ)) (path : List ℕ) (a b : Outcome) →
     IsBuiltFrom file path a → IsBuiltFrom file path b → a ≡ b

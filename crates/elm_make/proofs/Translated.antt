@@ -3,8 +3,9 @@ use Rattle.std.proofs.Common.{◌≡◌, ℕ, List, [], ◌∷◌, Bool, true, f
 use Rattle.std.specs.Prelude.{if◌then◌else◌, nat_le}
 use Rattle.wire_value.specs.Wire.{Wire}
 use Rattle.runs.specs.Trace.{SameRun, IsRuled, IsSafe}
-use Rattle.elm_base.specs.declared.fault.Code.TheVariants.{BadOutput, EntryNotFound}
+use Rattle.elm_base.specs.declared.fault.Code.TheVariants.{BadOutput, EntryNotFound, FileTooLarge}
 use Rattle.elm_files.specs.Tree.{Tree}
+use Rattle.elm_lexer.specs.Tokens.{Fault}
 use Rattle.first_canon.specs.Tree.{Project}
 use Rattle.first_canon.specs.Run.{SourceRun}
 use Rattle.js_tree.specs.Tree.{Program}
@@ -14,13 +15,14 @@ use Rattle.js_meaning.specs.Run.{JsRun}
 use Rattle.js_tree.proofs.NameFronts.{and_true}
 use Rattle.js_tree.proofs.Exact.{one_program}
 use Rattle.first_emit.specs.Emit.{Emit}
-use Rattle.first_compile.specs.Made.{Result, Good, NotYet, Made, too_long}
+use Rattle.first_compile.specs.Made.{Good, Made}
 use Rattle.first_compile.proofs.Accepted.{for_good, accepted_subset, accepted_ruled, accepted_meaning}
 use Rattle.first_compile.proofs.Same.{same_made}
 use Rattle.elm_make.specs.Paths.{normal_path, is_absolute, is_output, is_entry}
-use Rattle.elm_make.specs.BuildsTo.{Faulty, Text, start_line, text_within, fault_lines, IsJoined, linked}
+use Rattle.elm_make.specs.BuildsTo.{Faulty, Text, ModuleResult, Refused, Compiled, Gives, compiled, too_long, start_fault, start_line, text_within, fault_lines, IsJoined, linked}
 use Rattle.elm_make.specs.BuildsTo.{IsBuiltFrom, BuildsTo}
 use Rattle.elm_make.specs.Translated.{IsTextOfOne, AreInputs, Translates, IsTranslation}
+use Rattle.elm_make.proofs.Given.{one_result}
 use Rattle.elm_make.proofs.Same.{of_one}
 use Rattle.elm_make.proofs.Steps.{steps_text, never_stopped}
 
@@ -30,14 +32,16 @@ never_faulty bytes lines e = absurd cc
 same_text : (bytes others : List ℕ) → Text bytes ≡ Text others → others ≡ bytes
 same_text bytes others e = cc
 
-never_good : {P : Type 0} (p : Project) → Good p ≡ NotYet → P
-never_good p e = absurd cc
+never_refused : {P : Type 0} (p : Project) (f : Fault) → Compiled p ≡ Refused f → P
+never_refused p f e = absurd cc
 
 -- the program of a module is that of a text within the limit
 good_within : (text : List ℕ) (p : Project) (b : Bool) →
-    Made (if b then Some text else None) (Good p) → Made (Some text) (Good p)
-good_within text p true m = m
-good_within text p false m = never_good p (same_made None (Good p) NotYet m too_long)
+    Gives (if b then Some text else None) (Compiled p) → Made (Some text) (Good p)
+good_within text p true (compiled i m) = m
+good_within text p false g =
+    never_refused p (start_fault FileTooLarge)
+    (one_result None (Compiled p) (Refused (start_fault FileTooLarge)) g too_long)
 
 -- what is in the subset can be spelled
 spelled_in : (p : Program) → in_subset p ≡ true → is_program_spelled p ≡ true
@@ -81,12 +85,12 @@ translated text p bytes m t = record {
       (for_good (λ q. (flags : Wire) → IsAlike q flags []) accepted_meaning (Some text) p m flags);
 }
 
-joined_translated : (text path bytes : List ℕ) (made : Result) → Made (text_within text) made →
-    IsJoined (linked ((path, made) ∷ [])) ((path, made) ∷ []) (Text bytes) → Translates text bytes
-joined_translated text path bytes (Good p) m j =
+joined_translated : (text path bytes : List ℕ) (result : ModuleResult) → Gives (text_within text) result →
+    IsJoined (linked ((path, result) ∷ [])) ((path, result) ∷ []) (Text bytes) → Translates text bytes
+joined_translated text path bytes (Compiled p) m j =
     translated text p bytes (good_within text p (nat_le (length text) 4194304) m)
     (subst (λ b. JsText (Emit p) b) (same_text bytes j.0 j.2) j.1)
-joined_translated text path bytes NotYet m j = never_faulty bytes (fault_lines ((path, NotYet) ∷ [])) j
+joined_translated text path bytes (Refused f) m j = never_faulty bytes (fault_lines ((path, Refused f) ∷ [])) j
 
 built_translated : (file : Option (List ℕ)) (path bytes : List ℕ) →
     IsBuiltFrom file path (Text bytes) → IsTranslation file bytes

@@ -1,7 +1,5 @@
 -- The outcome of a build of the code, as plain data.
-use Rattle.std.specs.Prelude.{ℕ, List, Option, option_map}
-use Rattle.std.specs.declared.vec.Vec.{Vec}
-use Rattle.std.specs.declared.alloc.Global.{Global}
+use Rattle.std.specs.Prelude.{ℕ, List}
 use Rattle.elm_make.specs.declared.project.Built.{Built}
 use Rattle.elm_make.specs.declared.project.Outcome as program
 use Rattle.elm_make.specs.BuildsTo.{Outcome, Stopped, Faulty, Text}
@@ -14,7 +12,3 @@ outcome_of (program.Outcome.Text text) lines = Text text.items
 
 abbrev pub built_view : Built → Outcome
 built_view b = outcome_of b.outcome b.lines.items
-
--- a text, if there is one
-abbrev pub text_view : Option (Vec ℕ Global) → Option (List ℕ)
-text_view program = option_map (λ text. text.items) program

@@ -1,22 +1,27 @@
 //! One build of a project.
 
-ghost use Rattle.std.specs.Prelude.{◌≡◌, ◌≤◌, ℕ, List, IfOk, length};
-ghost use Rattle.elm_base.specs.declared.fault.Code.TheVariants.{NotYet as not_yet};
+ghost use Rattle.std.specs.Prelude.{◌≡◌, ◌≤◌, ℕ, List, IfOk, IfErr, length};
 ghost use Rattle.elm_files.specs.Answers.{NoneFull};
 ghost use Rattle.elm_files.specs.States.{files_state};
+ghost use Rattle.elm_lexer.specs.Tokens.{Token as PlainToken};
+ghost use Rattle.elm_lexer.specs.View.{fault_view, IfFault};
+ghost use Rattle.elm_tree.specs.Tree.{Module as PlainModule};
+ghost use Rattle.elm_parser.specs.Parsed.{IsText};
 ghost use Rattle.elm_make.specs.BuildsTo as plain;
 ghost use Rattle.elm_make.specs.BuildsTo.{BuildsTo, IsBuiltFrom, IsFoldOf, modules_of, one_source};
-ghost use Rattle.elm_make.specs.BuildsTo.{outcome_for, start_line};
+ghost use Rattle.elm_make.specs.BuildsTo.{line_of, start_line};
 ghost use Rattle.elm_make.specs.End.{HasOutcome, IsBuilt, IsEndAt, IsFailureTold, IsOnly};
 ghost use Rattle.elm_make.specs.Paths.{normal_path};
-ghost use Rattle.elm_make.specs.View.{built_view, text_view};
+ghost use Rattle.elm_make.specs.View.{built_view};
 
-use crate::lines::{compiled, refusal};
+use crate::lines::{compiled, refusal, start_fault};
 use crate::paths::{is_absolute, is_entry, is_output, normal};
 use build_workers::Gate;
 use elm_base::fault::{Code, Fault};
 use elm_base::text::Text;
 use elm_files::{FileError, Files, Got};
+use elm_lexer::{TextError, TextFault};
+use elm_parser::parse_text;
 use first_compile::{Made, compile};
 use first_emit::emit::emit;
 use js_printer::print;
@@ -133,7 +138,7 @@ fn build_entry<F: Files, G: Gate>(
     let path = Text::copy(alloc, source.as_bytes())?;
     match files.read(source, MAX_TEXT) {
         Ok(Got::Bytes(text)) => build_text(alloc, files, gate, source, &text, file),
-        Ok(Got::TooLong) => Ok(refused(alloc, source)?),
+        Ok(Got::TooLong) => Ok(refused(alloc, source, start_fault(Code::FileTooLarge))?),
         Ok(Got::Absent) => Ok(stopped(alloc, Code::EntryNotFound, source)?),
         Err(error) => Err(failed(error, path)),
     }
@@ -154,26 +159,46 @@ fn build_text<F: Files, G: Gate>(
     ensures built { IsBuilt file.now result (files_state F.Files files.old) (files_state F.Files files.new) }
 {
     gate.before(0, 0);
-    let program = program_text(alloc, text)?;
+    let program = program_text(alloc, text);
     gate.after(0, 0);
     match program {
-        Some(program) => write_text(alloc, files, program, file),
-        None => Ok(refused(alloc, source)?),
+        Ok(program) => write_text(alloc, files, program, file),
+        Err(error) => match error {
+            TextError::NoMemory => Err(BuildEnd::NoMemory),
+            TextError::Fault(fault) => Ok(refused(alloc, source, fault)?),
+        },
     }
 }
 
-/// The text of the program of a module, or none if the module is not accepted.
-fn program_text(alloc: Global, text: &[u8]) -> Result<Option<Vec<u8>>, AllocError>
+/// The text of the program of a module. The error is the fault for which the module is refused, or out of memory.
+fn program_text<'a>(alloc: Global, text: &'a [u8]) -> Result<Vec<u8>, TextError<'a>>
     requires { length text.now ≤ 4194304 }
-    ensures { IfOk result (λ program. (path : List ℕ) →
-        IsOnly (IsFoldOf (one_source path text.now)) (outcome_for path (text_view program))) }
+    ensures text { IfOk result (λ program. (path : List ℕ) →
+        IsOnly (IsFoldOf (one_source path text.entry.now)) (plain.Text program.items)) }
+    ensures fault { IfErr result (λ e. IfFault e (λ f. (path : List ℕ) →
+        IsOnly (IsFoldOf (one_source path text.entry.now)) (plain.Faulty (line_of path f)))) }
+{
+    match parse_text(alloc, text) {
+        Ok(_parsed) => compiled_text(alloc, text),
+        Err(error) => Err(error),
+    }
+}
+
+/// The same of a text without a fault of syntax.
+fn compiled_text<'a>(alloc: Global, text: &'a [u8]) -> Result<Vec<u8>, TextError<'a>>
+    requires short { length text.now ≤ 4194304 }
+    requires read { (ts : List PlainToken) × (m : PlainModule) × IsText text.now ts m }
+    ensures text { IfOk result (λ program. (path : List ℕ) →
+        IsOnly (IsFoldOf (one_source path text.entry.now)) (plain.Text program.items)) }
+    ensures fault { IfErr result (λ e. IfFault e (λ f. (path : List ℕ) →
+        IsOnly (IsFoldOf (one_source path text.entry.now)) (plain.Faulty (line_of path f)))) }
 {
     match compile(alloc, text)? {
         Made::Good(project) => {
             let trees = emit(alloc, &project)?;
-            Ok(Some(print(alloc, &trees)?))
+            Ok(print(alloc, &trees)?)
         }
-        Made::NotYet => Ok(None),
+        Made::NotYet => Err(TextError::Fault(start_fault(Code::NotYet))),
     }
 }
 
@@ -216,7 +241,7 @@ fn stopped(alloc: Global, code: Code, path: &str) -> Result<Built, AllocError>
     ensures outcome { IfOk result (λ built. built_view built ≡ plain.Stopped (start_line code path.now)) }
     ensures counts { IfOk result (λ built. built.modules ≡ modules_of (built_view built)) }
 {
-    let (fault, lines) = refusal(alloc, code, path)?;
+    let (fault, lines) = refusal(alloc, start_fault(code), path)?;
     let mut faults = Vec::new(alloc);
     faults.push(fault)?;
     Ok(Built {
@@ -226,12 +251,13 @@ fn stopped(alloc: Global, code: Code, path: &str) -> Result<Built, AllocError>
     })
 }
 
-/// A build of a project whose one module, at `path`, is not accepted.
-fn refused(alloc: Global, path: &str) -> Result<Built, AllocError>
-    ensures outcome { IfOk result (λ built. built_view built ≡ plain.Faulty (start_line not_yet path.now)) }
+/// A build of a project whose one module, at `path`, is refused for this fault.
+fn refused(alloc: Global, path: &str, fault: TextFault<'_>) -> Result<Built, AllocError>
+    ensures outcome { IfOk result (λ built.
+        built_view built ≡ plain.Faulty (line_of path.now (fault_view fault.entry))) }
     ensures counts { IfOk result (λ built. built.modules ≡ modules_of (built_view built)) }
 {
-    let (fault, lines) = refusal(alloc, Code::NotYet, path)?;
+    let (fault, lines) = refusal(alloc, fault, path)?;
     let mut faults = Vec::new(alloc);
     faults.push(fault)?;
     Ok(Built {

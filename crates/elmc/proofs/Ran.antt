@@ -7,11 +7,11 @@ use Rattle.std.specs.declared.alloc.Global.{Global}
 use Rattle.command_line.specs.Command.{run}
 use Rattle.elm_files.specs.Texts.{LongerByPart, longer}
 use Rattle.elm_files.specs.Tree.{Tree}
-use Rattle.elm_run.specs.declared.course.Ended.{Ended}
-use Rattle.elm_run.specs.declared.course.Ended.TheVariants as ended
-use Rattle.elm_run.specs.RunEnd as end
-use Rattle.elm_run.specs.RunEnd.{IsRun, IsRunInPart}
-use Rattle.elm_run.specs.Runs.{Outcome, Ran, Refused}
+use Rattle.run_files.specs.declared.course.Ended.{Ended}
+use Rattle.run_files.specs.declared.course.Ended.TheVariants as ended
+use Rattle.run_files.specs.RunEnd as end
+use Rattle.run_files.specs.RunEnd.{IsRun, IsRunInPart}
+use Rattle.run_files.specs.Runs.{Outcome, Ran, Refused}
 use Rattle.run_text.specs.Told.{is_ready, told_text}
 use Rattle.runs.specs.Trace.{Trace}
 use Rattle.elmc.specs.Causes.{memory_line, out_rose}

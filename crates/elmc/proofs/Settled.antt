@@ -7,8 +7,8 @@ use Rattle.elm_make.specs.BuildsTo.{BuildsTo, Outcome}
 use Rattle.elm_make.specs.End.{IsOnly}
 use Rattle.elm_make.specs.Paths.{normal_path}
 use Rattle.elm_make.proofs.Translated.{text_translated}
-use Rattle.elm_run.specs.Runs as runs
-use Rattle.elm_run.specs.Runs.{RunsTo}
+use Rattle.run_files.specs.Runs as runs
+use Rattle.run_files.specs.Runs.{RunsTo}
 use Rattle.elmc.specs.declared.program.TheConstants.{USAGE}
 use Rattle.elmc.specs.Effect.{Effect, HasEffect, build_effect, complaint, run_effect}
 use Rattle.elmc.specs.Promise.{IsKnown, Means}

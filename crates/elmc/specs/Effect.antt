@@ -4,8 +4,8 @@ use Rattle.command_line.specs.Command.{Command, make, run}
 use Rattle.elm_files.specs.Tree.{Tree, with_file}
 use Rattle.elm_make.specs.BuildsTo.{Outcome, Stopped, Faulty, Text, BuildsTo, compiled_line}
 use Rattle.elm_make.specs.Paths.{normal_path}
-use Rattle.elm_run.specs.Runs as runs
-use Rattle.elm_run.specs.Runs.{Refused, Ran, RunsTo}
+use Rattle.run_files.specs.Runs as runs
+use Rattle.run_files.specs.Runs.{Refused, Ran, RunsTo}
 use Rattle.run_text.specs.Told.{told_text, is_ready}
 use Rattle.elmc.specs.declared.program.TheConstants.{USAGE}
 

@@ -8,7 +8,7 @@ ghost use Rattle.elmc.specs.Promise.{KeepsPromise};
 
 use crate::report::{file_failed, out_of_memory, said};
 use elm_files::{Files, Sink};
-use elm_run::{Ended, RunEnd, run};
+use run_files::{Ended, RunEnd, run};
 use std::alloc::Global;
 
 /// Runs the JavaScript in the file at `program` on the inputs in the file at `inputs`. Prints the text of the run on

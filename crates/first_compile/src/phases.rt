@@ -6,7 +6,7 @@ ghost use Rattle.first_compile.specs.Made.{Made as IsMade, Result as PlainResult
 ghost use Rattle.first_compile.specs.Steps.{IsBuiltOf};
 ghost use Rattle.first_compile.specs.View.{made_view, HasExactLiterals};
 
-use elm_lexer::{LexError, Token, tokens};
+use elm_lexer::{TextError, Token, tokens};
 use first_canon::tree::Project;
 use first_items::module_items;
 use first_link::link::link;
@@ -34,8 +34,8 @@ pub fn compile(alloc: Global, text: &[u8]) -> Result<Made, AllocError>
 {
     match tokens(alloc, text) {
         Ok(tokens) => build(alloc, &tokens),
-        Err(LexError::NoMemory) => Err(AllocError),
-        Err(LexError::Fault(_)) => Ok(Made::NotYet),
+        Err(TextError::NoMemory) => Err(AllocError),
+        Err(TextError::Fault(_)) => Ok(Made::NotYet),
     }
 }
 

@@ -2,7 +2,7 @@ ghost use Rattle.std.specs.Prelude.{◌≤◌, length};
 
 use elm_base::fault::Code;
 use elm_base::position::Pos;
-use elm_lexer::{Kind, LexError, Token, literal_units, tokens};
+use elm_lexer::{Kind, TextError, Token, literal_units, tokens};
 use std::process::Abort;
 use std::test::Fail;
 
@@ -57,7 +57,7 @@ fn is_refused(rt: &HostRuntime, text: &[u8]) -> bool
     requires { length text.now ≤ 4194304 }
 {
     match tokens(rt.alloc(), text) {
-        Err(LexError::Fault(_)) => true,
+        Err(TextError::Fault(_)) => true,
         _ => false,
     }
 }
@@ -85,7 +85,7 @@ fn is_fault(rt: &HostRuntime, text: &[u8], code: Code, row: u32, column: u32, de
     requires { length text.now ≤ 4194304 }
 {
     match tokens(rt.alloc(), text) {
-        Err(LexError::Fault(fault)) => {
+        Err(TextError::Fault(fault)) => {
             fault.code == code && fault.place == Pos { row, column } && fault.detail == detail
         }
         _ => false,

@@ -1,8 +1,8 @@
 //! Runs over files and a sink in memory.
 
 use elm_files::{MemFiles, MemSink};
-use elm_run::{Ended, RunEnd, run};
 use js_tree::runtime::{HEAD, TAIL};
+use run_files::{Ended, RunEnd, run};
 use std::alloc::{AllocError, Global};
 use std::test::Fail;
 

@@ -6,6 +6,7 @@ mod definitions;
 mod expected;
 mod failures;
 mod running;
+mod syntax;
 mod texts;
 mod worked;
 mod workers;

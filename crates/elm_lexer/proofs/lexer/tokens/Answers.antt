@@ -1,5 +1,5 @@
-use Rattle.std.proofs.lemmas.List.{length-drop}
-use Rattle.std.proofs.Common.{ℕ, length, map, refl, sym, ap, subst, ◌∙◌, arith, rules}
+use Rattle.std.proofs.lemmas.List.{length-drop, length-append}
+use Rattle.std.proofs.Common.{ℕ, [], ◌∷◌, length, map, refl, sym, ap, subst, ◌∙◌, arith, rules}
 use Rattle.std.proofs.lemmas.Grind.{common_steps}
 use Rattle.std.specs.Str.{IsUtf8}
 use Rattle.elm_lexer.specs.Gaps.{begins_gap, IsGap}
@@ -18,6 +18,7 @@ loop-rest-init c =
       utf8 = search rules;
       row = omega (arith, ap length same);
       column = omega (arith, ap length same);
+      count = omega (arith, ap length same, ap length c.new-found.ensures.items);
       cuts = cuts_start c.args.text.now _ _ same (ap (map token_view) c.new-found.ensures.items);
     }
 
@@ -35,6 +36,7 @@ loop-rest-preserved-then-begins_gap c =
       utf8 = search rules;
       row = grind (arith, common_steps);
       column = grind (arith, common_steps);
+      count = grind (arith, common_steps);
       cuts = gap_step c.args.text.now _ _ _ _ c.loop-rest.rest.now c.as_bytes-bytes.result.now c.in-Some.after.now _ c.range_from-rest.result.now _ c.loop-rest.invariant.cuts text same c.in-Some.ensures.gap refl refl c.range_from-rest.ensures.value c.behind-place.ensures.place;
     }
 
@@ -64,11 +66,13 @@ loop-rest-preserved c =
     let same = c.as_bytes-bytes.ensures.value in
     let text = subst (λ x. IsUtf8 x) same c.as_bytes-bytes.ensures.utf8 in
     let first = first_found c.loop-rest.rest.now c.first_in.result _ text c.first_in.ensures.value c.in-Token.is in
+    let cut = token_cut c.loop-rest.rest.now c.in-Token.kind c.in-Token.length first in
     let items = ap (map token_view) c.in_ok-push-in-Token.ensures.items ∙ map_push token_view c.loop-rest.found.items _ in
     record {
       utf8 = search rules;
       row = grind (arith, common_steps);
       column = grind (arith, common_steps);
+      count = omega (arith, c.loop-rest.invariant.count, cut.some, cut.within, ap length c.range_from-rest-in-Token.ensures.value, length-drop {A = ℕ}, ap length c.in_ok-push-in-Token.ensures.items);
       cuts = token_step c.args.text.now _ _ _ _ _ c.begins_gap-in-Token.result c.loop-rest.rest.now c.as_bytes-bytes.result.now _ _ _ c.in-Token.kind c.in-Token.length c.loop-rest.invariant.cuts same (sym c.if-begins_gap.ensures) first c.split_at.ensures.front c.split_at.ensures.back c.begins_gap-in-Token.ensures items c.behind-place-in-Token.ensures.place c.range_from-rest-in-Token.ensures.value;
     }
 

@@ -10,6 +10,7 @@ invariant-loop-rest l = record {
   utf8 : shadow (Utf8 l.rest);
   row : l.place.row + length l.rest ≤ 1 + length l.text;
   column : l.place.column + length l.rest ≤ 1 + length l.text;
+  count : length l.found.items + length l.rest ≤ length l.text;
   cuts : Cuts l.text (map token_view l.found.items) (place_view l.place) l.touched l.rest;
 }
 

@@ -2,7 +2,7 @@
 use Rattle.std.proofs.Common.{◌≡◌, IfSome, sym, ap, ◌∙◌, subst}
 use Rattle.std.proofs.lemmas.Option.{IfSome_then}
 use Rattle.std.proofs.lemmas.Result.{IfOk-weaker}
-use Rattle.elm_make.specs.BuildsTo.{IsBuiltFrom, IsFoldOf, one_source}
+use Rattle.elm_make.specs.BuildsTo.{Faulty, line_of, IsBuiltFrom, IsFoldOf, one_source}
 use Rattle.elm_make.specs.End.{IsOnly}
 use Rattle.elm_make.specs.View.{built_view}
 use Rattle.elm_make.proofs.Entry.{read_built, too_long_built}
@@ -27,5 +27,5 @@ pub returns-in-Ok-TooLong-clause-outcome : goal.returns-in-Ok-TooLong-clause-out
 returns-in-Ok-TooLong-clause-outcome g c =
     let path = c.args.source.now in
     IfSome_then (g.F.Files.tree c.args.files.now) c.in-Ok-TooLong.ensures.answer (λ tree read.
-    subst (λ outcome. IsOnly (IsBuiltFrom (tree path) path) outcome) (sym c.in_ok-refused-in-Ok-TooLong.ensures.outcome)
+    subst (λ outcome. IsOnly (IsBuiltFrom (tree path) path) outcome) (sym (c.in_ok-refused-in-Ok-TooLong.ensures.outcome ∙ ap (λ f. Faulty (line_of path f)) c.start_fault.ensures))
     (too_long_built (tree path) path c.in-Ok-TooLong.field-0 c.in-Ok-TooLong.field-0-is read))

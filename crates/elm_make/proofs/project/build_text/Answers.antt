@@ -1,24 +1,26 @@
--- The outcome is that of `program_text`: with a text, `write_text` returns it, and without one, `refused` the fault.
-use Rattle.std.proofs.Common.{◌≡◌, sym, ap, ◌∙◌, subst}
+-- The outcome is that of `program_text`: with a text, `write_text` returns it, and with a fault `refused` does.
+use Rattle.std.proofs.Common.{◌≡◌, ℕ, List, sym, subst}
 use Rattle.std.proofs.lemmas.Result.{IfOk-weaker}
-use Rattle.elm_make.specs.BuildsTo.{Text, IsFoldOf, one_source, outcome_for}
+use Rattle.elm_lexer.specs.View.{IfFault}
+use Rattle.elm_make.specs.BuildsTo.{Text, Faulty, line_of, IsFoldOf, one_source}
 use Rattle.elm_make.specs.End.{IsOnly}
-use Rattle.elm_make.specs.View.{built_view, text_view}
+use Rattle.elm_make.specs.View.{built_view}
 use Rattle.elm_make.proofs.project.build_text.Goals as goal
 
-pub returns-in-Some-clause-outcome : goal.returns-in-Some-clause-outcome
-returns-in-Some-clause-outcome g c =
+pub returns-in-Ok-clause-outcome : goal.returns-in-Ok-clause-outcome
+returns-in-Ok-clause-outcome g c =
     let path = c.args.source.now in
     let source = one_source path c.args.text.now in
-    IfOk-weaker c.write_text.result (λ built. built_view built ≡ Text c.in-Some.program.items)
+    IfOk-weaker c.write_text.result (λ built. built_view built ≡ Text c.in-Ok.program.items)
     (λ built. IsOnly (IsFoldOf source) (built_view built))
-    (λ built e. subst (λ outcome. IsOnly (IsFoldOf source) outcome)
-    (ap (λ p. outcome_for path (text_view p)) c.in-Some.is ∙ sym e) (c.in_ok-program.ensures path))
+    (λ built e. subst (λ outcome. IsOnly (IsFoldOf source) outcome) (sym e) (c.in-Ok.ensures.text path))
     c.write_text.ensures.text
 
-pub returns-in_ok-refused-in-None-clause-outcome : goal.returns-in_ok-refused-in-None-clause-outcome
-returns-in_ok-refused-in-None-clause-outcome g c =
+pub returns-in_ok-refused-in-Fault-clause-outcome : goal.returns-in_ok-refused-in-Fault-clause-outcome
+returns-in_ok-refused-in-Fault-clause-outcome g c =
     let path = c.args.source.now in
-    subst (λ outcome. IsOnly (IsFoldOf (one_source path c.args.text.now)) outcome)
-    (ap (λ p. outcome_for path (text_view p)) c.in-None.is ∙ sym c.in_ok-refused-in-None.ensures.outcome)
-    (c.in_ok-program.ensures path)
+    let text = c.args.text.now in
+    let told = subst (λ z. IfFault z (λ f. (path : List ℕ) → IsOnly (IsFoldOf (one_source path text)) (Faulty (line_of path f))))
+    c.in-Fault.is c.in-Err.ensures.fault in
+    subst (λ outcome. IsOnly (IsFoldOf (one_source path text)) outcome)
+    (sym c.in_ok-refused-in-Fault.ensures.outcome) (told path)

@@ -1,23 +1,19 @@
--- The result of the module is the one that `compile` returns, and the folds over it are `good_fold` and `bad_fold`.
-use Rattle.std.proofs.Common.{Some, ap, ◌∙◌, subst}
-use Rattle.js_tree.specs.Postorder.{top}
-use Rattle.first_emit.specs.Emit.{Emit}
-use Rattle.first_compile.specs.Made.{Made}
-use Rattle.first_compile.specs.View.{made_view}
-use Rattle.first_canon.specs.View.{project_view}
-use Rattle.elm_make.proofs.Folds.{good_fold, bad_fold}
+-- A text without a fault is compiled (`compiled_text`), and one with a fault is refused for it (`bad_fold`).
+use Rattle.std.proofs.Common.{◌≡◌, ℕ, List, Some}
+use Rattle.elm_lexer.specs.Tokens.{Fault}
+use Rattle.elm_parser.specs.Parsed.{HasTextFault}
+use Rattle.elm_parser.proofs.Answering.{fault_mapped}
+use Rattle.elm_make.specs.BuildsTo.{Faulty, line_of, faulty, IsFoldOf, one_source}
+use Rattle.elm_make.specs.End.{IsOnly}
+use Rattle.elm_make.proofs.Folds.{bad_fold}
 use Rattle.elm_make.proofs.project.program_text.Goals as goal
 
-pub returns-in_ok-print-in-Good : goal.returns-in_ok-print-in-Good
-returns-in_ok-print-in-Good c = λ path.
-    let project = project_view c.in-Good.project in
-    good_fold path (Some c.args.text.now) project c.in_ok-print-in-Good.field-0.items
-    (subst (λ r. Made (Some c.args.text.now) r) (ap made_view c.in-Good.is) c.in_ok-project.ensures.made)
-    (λ r m. c.in_ok-project.ensures.only r m ∙ ap made_view c.in-Good.is)
-    (c.in_ok-print-in-Good.ensures.program (Emit project) (ap top c.in_ok-trees-in-Good.ensures))
+pub compiled_text-requires-clause-read : goal.compiled_text-requires-clause-read
+compiled_text-requires-clause-read c = (_, _, c.in-Ok.ensures.read)
 
-pub returns-in-NotYet : goal.returns-in-NotYet
-returns-in-NotYet c = λ path.
-    bad_fold path (Some c.args.text.now)
-    (subst (λ r. Made (Some c.args.text.now) r) (ap made_view c.in-NotYet.is) c.in_ok-project.ensures.made)
-    (λ r m. c.in_ok-project.ensures.only r m ∙ ap made_view c.in-NotYet.is)
+pub returns-in-Err-clause-fault : goal.returns-in-Err-clause-fault
+returns-in-Err-clause-fault c =
+    let text = c.args.text.now in
+    fault_mapped c.in-Err.error (HasTextFault text)
+    (λ f. (path : List ℕ) → IsOnly (IsFoldOf (one_source path text)) (Faulty (line_of path f)))
+    (λ f h path. bad_fold path (Some text) f (faulty h)) c.in-Err.ensures.fault

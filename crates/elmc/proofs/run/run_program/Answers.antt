@@ -1,7 +1,7 @@
 -- Each arm ends the run in one of the ways of `Ran`, by what `run` leaves and what the report then prints.
 use Rattle.std.proofs.Common.{Some, refl, subst}
 use Rattle.command_line.specs.Command.{run}
-use Rattle.elm_run.specs.RunEnd.{HasCause, IsToldIfRose, LeavesAtEnd}
+use Rattle.run_files.specs.RunEnd.{HasCause, IsToldIfRose, LeavesAtEnd}
 use Rattle.elmc.specs.Outside.{outside}
 use Rattle.elmc.specs.Report.{Says}
 use Rattle.elmc.proofs.Kept.{by_file_failure, unchanged}

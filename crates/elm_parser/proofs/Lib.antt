@@ -1,0 +1,6 @@
+pub mod Unique
+pub mod Fronts
+pub mod Valued
+pub mod Codes
+pub mod Determined
+pub mod Answering

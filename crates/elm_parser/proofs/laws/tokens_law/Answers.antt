@@ -1,0 +1,5 @@
+use Rattle.elm_parser.proofs.Determined.{tokens_law}
+use Rattle.elm_parser.proofs.laws.tokens_law.Goals as goal
+
+pub returns : goal.returns
+returns c = tokens_law c.rows-plan.result.now c.rows-plan.ensures.planned c.rows-plan.ensures.count

@@ -1,0 +1,5 @@
+pub mod Acting
+pub mod Columns
+pub mod Looping
+pub mod Runs
+pub mod Making

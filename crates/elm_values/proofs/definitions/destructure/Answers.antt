@@ -1,0 +1,21 @@
+-- What is taken off the stacks in turn (`took`) gives way to what is made of it (`acted`).
+use Rattle.std.proofs.Common.{refl}
+use Rattle.std.proofs.lemmas.Result.{on_ok_weaker}
+use Rattle.elm_grammar.specs.declared.action.Item.TheVariants as item
+use Rattle.elm_grammar.specs.declared.action.Action.TheVariants.{DestructureOf}
+use Rattle.elm_grammar.specs.Values.{One, act, gives, takes}
+use Rattle.elm_tree.proofs.Views.{destructure_definition}
+use Rattle.elm_values.proofs.Acting.{acted, done, took}
+use Rattle.elm_values.proofs.definitions.destructure.Goals as goal
+
+pub returns : goal.returns
+unfolding takes gives act
+returns c =
+    on_ok_weaker c.put_definition.result
+    (λ e tokens.
+    acted DestructureOf
+    (took (One item.Pattern) (c.take_pattern-begun.ensures.value tokens) (c.take_pattern-begun.ensures.rest tokens)
+    (took (One item.Word) refl (c.skip_word.ensures tokens)
+    (took (One item.Expr) (c.take_expr-body.ensures.value tokens) (c.take_expr-body.ensures.rest tokens)
+    (done tokens _))))
+    (destructure_definition tokens c.take_pattern-begun.result.pattern c.take_expr-body.result) (e tokens)) c.put_definition.ensures

@@ -1,0 +1,21 @@
+-- What is taken off the stacks in turn (`took`) gives way to what is made of it (`acted`).
+use Rattle.std.proofs.Common.{refl}
+use Rattle.std.proofs.lemmas.Result.{on_ok_weaker}
+use Rattle.elm_grammar.specs.declared.action.Item.TheVariants as item
+use Rattle.elm_grammar.specs.declared.action.Action.TheVariants.{CaseOf}
+use Rattle.elm_grammar.specs.Values.{Many, One, act, gives, takes}
+use Rattle.elm_values.proofs.Acting.{acted, done, took}
+use Rattle.elm_values.proofs.exprs.case_of.Goals as goal
+
+pub returns : goal.returns
+unfolding takes gives act
+returns c =
+    on_ok_weaker c.put_expr.result
+    (λ e tokens.
+    acted CaseOf
+    (took (One item.Word) (c.take_word-place.ensures.value tokens) (c.take_word-place.ensures.rest tokens)
+    (took (One item.Expr) (c.take_expr-e.ensures.value tokens) (c.take_expr-e.ensures.rest tokens)
+    (took (One item.Word) refl (c.skip_word.ensures tokens)
+    (took (Many item.Branch) (c.take_branches-branches.ensures.value tokens)
+    (c.take_branches-branches.ensures.rest tokens) (done tokens _)))))
+    (c.in_ok-made.ensures tokens) (e tokens)) c.put_expr.ensures

@@ -1,0 +1,22 @@
+-- What is taken off the stacks in turn (`took`) gives way to what is made of it (`acted`).
+use Rattle.std.proofs.Common.{refl}
+use Rattle.std.proofs.lemmas.Result.{on_ok_weaker}
+use Rattle.elm_grammar.specs.declared.action.Item.TheVariants as item
+use Rattle.elm_grammar.specs.declared.action.Action.TheVariants.{RecordOf}
+use Rattle.elm_grammar.specs.Values.{Many, One, act, gives, takes}
+use Rattle.elm_values.proofs.Acting.{acted, done, took}
+use Rattle.elm_values.proofs.exprs.record_of.Goals as goal
+
+pub returns : goal.returns
+unfolding takes gives act
+returns c =
+    on_ok_weaker c.put_fields.result
+    (λ e tokens.
+    acted RecordOf
+    (took (One item.Word) (c.take_word-word.ensures.value tokens) (c.take_word-word.ensures.rest tokens)
+    (took (Many item.Word) (c.take_words-name.ensures.value tokens) (c.take_words-name.ensures.rest tokens)
+    (took (One item.Word) refl (c.skip_word.ensures tokens)
+    (took (One item.Expr) (c.take_expr-value.ensures.value tokens) (c.take_expr-value.ensures.rest tokens)
+    (took (Many item.Part) (c.take_parts-others.ensures.value tokens) (c.take_parts-others.ensures.rest tokens)
+    (done tokens _))))))
+    (c.in_ok-made.ensures tokens) (e tokens)) c.put_fields.ensures

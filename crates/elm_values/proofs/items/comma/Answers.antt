@@ -1,0 +1,14 @@
+-- A word is taken off, and then it is `more`.
+use Rattle.std.proofs.Common.{ap, ◌∙◌}
+use Rattle.std.proofs.lemmas.Result.{on_ok_weaker}
+use Rattle.elm_grammar.specs.declared.action.Action.TheVariants.{More}
+use Rattle.elm_grammar.specs.Values.{act, gives, takes}
+use Rattle.elm_values.specs.Stack.{apply}
+use Rattle.elm_values.proofs.items.comma.Goals as goal
+
+pub returns : goal.returns
+unfolding takes gives act
+returns c =
+    on_ok_weaker c.more.result
+    (λ h tokens. h tokens ∙ ap (apply tokens (More c.args.item)) (c.skip_word.ensures tokens))
+    c.more.ensures

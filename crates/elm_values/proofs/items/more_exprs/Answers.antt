@@ -1,0 +1,17 @@
+-- An item is taken, a list is taken, and the list is put back with the item in front (`grown`).
+use Rattle.std.proofs.Common.{map, ap}
+use Rattle.std.proofs.lemmas.Result.{on_ok_weaker}
+use Rattle.elm_tree.specs.View.{expr_view}
+use Rattle.elm_grammar.specs.declared.action.Item.TheVariants as item
+use Rattle.elm_values.specs.Stack.{columns}
+use Rattle.elm_values.proofs.Acting.{grown}
+use Rattle.elm_values.proofs.items.more_exprs.Goals as goal
+
+pub returns : goal.returns
+returns c =
+    on_ok_weaker c.put_exprs.result
+    (λ h tokens.
+    grown item.Expr tokens (columns tokens c.args.stacks.now) (c.take_expr-first.ensures.value tokens) (c.take_expr-first.ensures.rest tokens)
+    (c.take_exprs-list.ensures.value tokens) (c.take_exprs-list.ensures.rest tokens)
+    (ap (map (expr_view tokens)) c.in_ok-put.ensures) (h tokens))
+    c.put_exprs.ensures

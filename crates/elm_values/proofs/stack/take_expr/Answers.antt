@@ -1,0 +1,17 @@
+-- What is taken is the first of the column (`seen_head`), and the others stay (`seen_tail`).
+use Rattle.std.proofs.Common.{reverse, ap}
+use Rattle.elm_tree.specs.View.{expr_view}
+use Rattle.elm_values.specs.Stack.{columns, pop, top}
+use Rattle.elm_values.proofs.Columns.{seen_head, seen_tail}
+use Rattle.elm_values.proofs.stack.take_expr.Goals as goal
+
+pub returns-clause-value : goal.returns-clause-value
+unfolding columns top
+returns-clause-value c = λ tokens.
+    seen_head (expr_view tokens) (reverse c.args.stacks.now.exprs.items) c.take_or.ensures.value (c.no_expr.ensures tokens)
+
+pub returns-clause-rest : goal.returns-clause-rest
+unfolding columns pop
+returns-clause-rest c = λ tokens.
+    ap (λ z. record (columns tokens c.args.stacks.now) { exprs = z })
+    (seen_tail (expr_view tokens) (reverse c.args.stacks.now.exprs.items) c.take_or.ensures.rest)

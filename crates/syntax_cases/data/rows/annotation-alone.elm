@@ -1,0 +1,7 @@
+module Main exposing (..)
+
+size : Int
+
+
+other =
+    1

@@ -1,0 +1,1 @@
+port size : Int -> Cmd msg
