@@ -1,21 +1,29 @@
 -- What clap makes of the words of a subcommand, by `specs/Given.antt`.
-use Rattle.std.proofs.Common.{◌≡◌, ◌∙◌, ap₂, ◌&&◌, ◌||◌, ◌+◌, ℕ, Bool, true, false, refl, sym, ap, List, [], ◌∷◌, ◌++◌, map, length, Option, Some, None, cond, true≢false}
-use Rattle.std.specs.Prelude.{◌==◌, ◌⊎◌, IfSome, ⊤, is_some, option_and_then, option_map, slice_get, fold, find, min, codes, drop, encode_utf8}
+use Rattle.std.proofs.Common.{◌≡◌, ◌∙◌, ap₂, ◌&&◌, ◌||◌, ◌+◌, ℕ, Bool, true, false, refl, sym, ap, List, [], ◌∷◌, ◌++◌}
+use Rattle.std.proofs.Common.{map, length, Option, Some, None, cond, true≢false}
+use Rattle.std.specs.Prelude.{◌==◌, ◌⊎◌, IfSome, ⊤, is_some, option_and_then, option_map, slice_get, fold, find, min}
+use Rattle.std.specs.Prelude.{codes, drop, encode_utf8}
 use Rattle.std.specs.List.{after_first, before_first, list_any}
 use Rattle.std.specs.Option.{option_map_or}
 use Rattle.std.specs.Str.{bytes_eq, chars}
 use Rattle.clap.specs.Lexer.{long_of, long_of_rest, short_of, short_of_rest, strip_byte, usize_max}
-use Rattle.clap.specs.Walk.{Held, Row, Rule, Step, Waiting, Walk, idle, after_step, arg_by_id, arg_by_index, arg_by_long, arg_by_short, has_row, settled, walked, word_met, bundle, bundle_met, long_or_other, trailing, to_positional}
+use Rattle.clap.specs.Walk.{Held, Row, Rule, Step, Waiting, Walk, idle, after_step, arg_by_id, arg_by_index}
+use Rattle.clap.specs.Walk.{arg_by_long, arg_by_short, has_row, settled, walked, word_met, bundle, bundle_met}
+use Rattle.clap.specs.Walk.{long_or_other, trailing, to_positional}
 use Rattle.clap.specs.Walk as clap_walk
 use Rattle.clap.specs.Simple.{Shape, new_shape}
 use Rattle.clap.specs.Kinds.{Kinds, or_else}
-use Rattle.clap.specs.Faults.{bundle_step_fault, long_fault, short_fault, positional_fault, stray_fault, use_fault, settle_fault, step_fault, turn_fault, walk_fault, flag_word_fault, flags_fault, bundle_fault}
+use Rattle.clap.specs.Faults.{bundle_step_fault, long_fault, short_fault, positional_fault, stray_fault, use_fault}
+use Rattle.clap.specs.Faults.{settle_fault, step_fault, turn_fault, walk_fault, flag_word_fault, flags_fault}
+use Rattle.clap.specs.Faults.{bundle_fault}
 use Rattle.clap.specs.declared.builder.ArgAction.TheVariants.{Set}
 use Rattle.clap.specs.declared.builder.ValueParser.TheVariants as vp
 use Rattle.clap.specs.declared.error.ErrorKind.TheVariants as kind
 use Rattle.clap.specs.declared.parser.ValueSource.TheVariants.{CommandLine}
 use Rattle.command_line.specs.Command.{Text}
-use Rattle.command_line.specs.Given.{Form, Given, ending, option, short, plain, after_two_hyphens, form_of, give, given_by, is_given, has_name, place, places_only, read_form, read_value, use_option}
+use Rattle.command_line.specs.Given.{Form, Given, ending, option, short, plain, after_two_hyphens, form_of, give}
+use Rattle.command_line.specs.Given.{given_by, is_given, has_name, place, places_only, read_form, read_value}
+use Rattle.command_line.specs.Given.{use_option}
 
 -- ---- the form of a word
 

@@ -1,5 +1,6 @@
 -- What clap makes of the words of a process, by `specs/Given.antt`.
-use Rattle.std.proofs.Common.{arith, suc, ◌≡◌, ◌∙◌, ap₂, ◌&&◌, ◌||◌, ℕ, Bool, true, false, not, refl, sym, ap, List, [], ◌∷◌, map, length, Option, Some, None, cond, subst, true≢false}
+use Rattle.std.proofs.Common.{arith, suc, ◌≡◌, ◌∙◌, ap₂, ◌&&◌, ◌||◌, ℕ, Bool, true, false, not, refl, sym, ap, List, []}
+use Rattle.std.proofs.Common.{◌∷◌, map, length, Option, Some, None, cond, subst, true≢false}
 use Rattle.std.specs.Prelude.{is_some, option_and_then, option_map, slice_get, fold, find, codes}
 use Rattle.std.specs.List.{list_all, list_any}
 use Rattle.std.specs.Option.{option_map_or}
@@ -9,11 +10,13 @@ use Rattle.std.proofs.lemmas.Slice.Eq.{bytes_eq-Decides}
 use Rattle.std.proofs.lemmas.Bool.{ne_eqb}
 use Rattle.clap.specs.Lexer.{long_of, short_of}
 use Rattle.clap.specs.Words.{App, Row, Rule, fault_of, built, subcommand_of}
-use Rattle.clap.specs.Walk.{Held, Step, Walk, finished, has_row, is_empty, nothing_held, rows_after, settled, walk, walk_from, walked, with_default}
+use Rattle.clap.specs.Walk.{Held, Step, Walk, finished, has_row, is_empty, nothing_held, rows_after, settled, walk}
+use Rattle.clap.specs.Walk.{walk_from, walked, with_default}
 use Rattle.clap.specs.Walk as clap_walk
 use Rattle.clap.specs.Simple.{entered, names_of}
 use Rattle.clap.specs.Kinds.{Kinds, check_kinds, or_else}
-use Rattle.clap.specs.Faults.{bundle_fault, flag_word_fault, check_fault, default_fault, defaults_fault, entered_fault, given_default_fault, level_fault, other_fault, settle_fault, step_fault, walk_fault}
+use Rattle.clap.specs.Faults.{bundle_fault, flag_word_fault, check_fault, default_fault, defaults_fault, entered_fault}
+use Rattle.clap.specs.Faults.{given_default_fault, level_fault, other_fault, settle_fault, step_fault, walk_fault}
 use Rattle.clap.proofs.WalkLemmas.{both, find-map, walk_stopped}
 use Rattle.clap.proofs.OnLiterals.{clap_on_literals}
 use Rattle.clap.proofs.SimpleLemmas.{is_nil}
@@ -21,7 +24,8 @@ use Rattle.clap.proofs.FaultLemmas.{stopped_fault}
 use Rattle.command_line.specs.Command.{Command, Text, make, number_or, run}
 use Rattle.command_line.specs.Clap.{command_of, elmc_app, make_of, read, run_of}
 use Rattle.command_line.specs.Given.{Given, command_line, gives, has_name, make_given, run_given}
-use Rattle.command_line.proofs.Leaf.{letters, no_letters, Option_of, Places, Plain, built_rule, leaf_shape, reads_all, row_for, unless}
+use Rattle.command_line.proofs.Leaf.{letters, no_letters, Option_of, Places, Plain, built_rule, leaf_shape, reads_all}
+use Rattle.command_line.proofs.Leaf.{row_for, unless}
 
 -- ---- a subcommand
 

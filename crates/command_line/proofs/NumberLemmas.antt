@@ -1,5 +1,7 @@
 -- What `parse` reads, by the test that `specs/Command.antt` makes.
-use Rattle.std.proofs.Common.{◌≡◌, ◌≢◌, ◌∙◌, ◌<◌, ◌≤◌, ◌&&◌, ◌||◌, ◌==◌, ℕ, Bool, true, false, not, refl, sym, ap, subst, arith, List, [], ◌∷◌, Option, Some, None, decimal, drop, get_or, nat_lt, cond, lt-ltb, ltb-true, true≢false, unwrap_or}
+use Rattle.std.proofs.Common.{◌≡◌, ◌≢◌, ◌∙◌, ◌<◌, ◌≤◌, ◌&&◌, ◌||◌, ◌==◌, ℕ, Bool, true, false, not, refl, sym, ap}
+use Rattle.std.proofs.Common.{subst, arith, List, [], ◌∷◌, Option, Some, None, decimal, drop, get_or, nat_lt, cond}
+use Rattle.std.proofs.Common.{lt-ltb, ltb-true, true≢false, unwrap_or}
 use Rattle.std.proofs.lemmas.Bool.{eqb-true, eq-eqb, le-leb, leb-true, ne_eqb}
 use Rattle.std.proofs.lemmas.Fmt.{decimal-digits_value, digits_decimal, digits_value-decimal, first_decimal}
 use Rattle.std.proofs.lemmas.Option.{none-some}

@@ -1,7 +1,8 @@
 -- How a command line is read, word by word, into named texts. The forms are those that `clap` documents: the name of a
 -- subcommand, then positional arguments and long options in any order. An option is `--name=value`, or the two words
 -- `--name value`. After `--` each word is a positional argument.
-use Rattle.std.specs.Prelude.{◌==◌, Bool, List, [], ◌∷◌, ◌++◌, Option, Some, None, is_some, if◌then◌else◌, find, slice_get, option_map, option_and_then, codes}
+use Rattle.std.specs.Prelude.{◌==◌, Bool, List, [], ◌∷◌, ◌++◌, Option, Some, None, is_some, if◌then◌else◌, find}
+use Rattle.std.specs.Prelude.{slice_get, option_map, option_and_then, codes}
 use Rattle.std.specs.List.{after_first, before_first, list_any}
 use Rattle.std.specs.Str.{bytes_eq, chars}
 use Rattle.command_line.specs.Command.{Command, Text, make, run, number_or}

@@ -4,7 +4,8 @@ ghost use Rattle.std.specs.Prelude.{◌≡◌, IfOk, false, map, option_and_then
 ghost use Rattle.clap.specs.Words.{app_of, first_of, found_of, rows_of, rule_of, subcommand_rows_of};
 ghost use Rattle.clap.specs.declared.builder.Command.TheViews.{out-Command as fields_of};
 ghost use Rattle.command_line.specs.Command.{meaning};
-ghost use Rattle.command_line.specs.Clap.{command_of, elmc_app, free_option, make_app, make_of, needed_option, plain_app, positional, read, run_app, run_of};
+ghost use Rattle.command_line.specs.Clap.{command_of, elmc_app, free_option, make_app, make_of, needed_option};
+ghost use Rattle.command_line.specs.Clap.{plain_app, positional, read, run_app, run_of};
 
 use crate::numbers::number_or_other;
 use crate::words::Command;

@@ -1,5 +1,6 @@
 -- A text in quotes, by its UTF-16 units, all in ASCII. (RFC 8259, 7; ECMA-262, 12.9.4.)
-use Rattle.std.specs.Prelude.{ℕ, ◌+◌, ◌/◌, ◌%◌, List, [], ◌∷◌, ◌++◌, if◌then◌else◌, ◌&&◌, ◌||◌, ◌==◌, nat_le, nat_lt, codes}
+use Rattle.std.specs.Prelude.{ℕ, ◌+◌, ◌/◌, ◌%◌, List, [], ◌∷◌, ◌++◌, if◌then◌else◌, ◌&&◌, ◌||◌, ◌==◌, nat_le, nat_lt}
+use Rattle.std.specs.Prelude.{codes}
 
 -- a digit of base 16, upper case
 abbrev pub hex_digit : ℕ → ℕ

@@ -6,7 +6,8 @@ use Rattle.parse_machine.specs.declared.table.Symbol.TheVariants.{Word, Part, Li
 use Rattle.parse_machine.specs.declared.table.Step.{Step}
 use Rattle.parse_machine.specs.declared.table.Step.TheVariants.{Take, Read}
 use Rattle.parse_machine.specs.declared.table.Token.{Token}
-use Rattle.parse_machine.specs.Grammar.{Production, Is, Place, inside, leading, Calls, Tree, leaf, word, node, Spells, steps_of, tokens_of}
+use Rattle.parse_machine.specs.Grammar.{Production, Is, Place, inside, leading, Calls, Tree, leaf, word, node, Spells}
+use Rattle.parse_machine.specs.Grammar.{steps_of, tokens_of}
 use Rattle.parse_machine.specs.Plan.{Plan, IsPlanned, choice, select}
 use Rattle.parse_machine.proofs.Stack.{Frame, frame, Reads, finished, closed, a_word, a_node, start, reads_of}
 use Rattle.parse_machine.proofs.Opening.{Good, good_call}

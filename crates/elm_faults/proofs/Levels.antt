@@ -1,5 +1,7 @@
 -- What the program keeps of a level tells what the level tells.
-use Rattle.std.proofs.Common.{◌≡◌, ℕ, zero, suc, ◌+◌, ◌-◌, ◌≤◌, List, [], ◌∷◌, ◌++◌, map, length, get_or, Bool, true, false, ◌&&◌, if◌then◌else◌, nat_eq, nat_lt, nat_le, Option, Some, None, refl, sym, ap, ◌∙◌, arith}
+use Rattle.std.proofs.Common.{◌≡◌, ℕ, zero, suc, ◌+◌, ◌-◌, ◌≤◌, List, [], ◌∷◌, ◌++◌, map, length, get_or, Bool, true}
+use Rattle.std.proofs.Common.{false, ◌&&◌, if◌then◌else◌, nat_eq, nat_lt, nat_le, Option, Some, None, refl, sym, ap}
+use Rattle.std.proofs.Common.{◌∙◌, arith}
 use Rattle.std.proofs.lemmas.Bool.Decides.{nat_tests}
 use Rattle.std.specs.Str.{bytes_eq}
 use Rattle.elm_lexer.specs.Tokens.{Token}
@@ -11,7 +13,8 @@ use Rattle.parse_machine.specs.declared.table.Token as machine
 use Rattle.elm_grammar.specs.Classes as class
 use Rattle.elm_faults.specs.declared.level.Level as declared
 use Rattle.elm_base.specs.declared.fault.Code.TheVariants.{TooDeep, MixedOperators, TupleTooLarge}
-use Rattle.elm_faults.specs.Faults.{Decided, is_one_of, is_of, begins_with, openers, operators, lists, Level, outermost, below, read, fault_if, clashes, at_token}
+use Rattle.elm_faults.specs.Faults.{Decided, is_one_of, is_of, begins_with, openers, operators, lists, Level, outermost}
+use Rattle.elm_faults.specs.Faults.{below, read, fault_if, clashes, at_token}
 use Rattle.elm_faults.specs.Scan as scan
 
 -- ---- the nearest operators

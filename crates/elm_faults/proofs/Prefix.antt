@@ -1,5 +1,6 @@
 -- Of the faults that steps tell, those that a token decides are told by the steps up to that token.
-use Rattle.std.proofs.Common.{◌≡◌, ℕ, suc, ◌-◌, ◌<◌, List, [], ◌∷◌, ◌++◌, length, Bool, true, false, ◌&&◌, if◌then◌else◌, Option, Some, None, ◌⊎◌, inl, inr, refl, sym, ap, subst, ◌∙◌, arith}
+use Rattle.std.proofs.Common.{◌≡◌, ℕ, suc, ◌-◌, ◌<◌, List, [], ◌∷◌, ◌++◌, length, Bool, true, false, ◌&&◌}
+use Rattle.std.proofs.Common.{if◌then◌else◌, Option, Some, None, ◌⊎◌, inl, inr, refl, sym, ap, subst, ◌∙◌, arith}
 use Rattle.std.specs.Prelude.{Contains, slice_index_or, nat_eq}
 use Rattle.std.proofs.lemmas.List.Elements.{Contains-append_left, Contains-append_right, Contains-append_cases}
 use Rattle.elm_base.specs.declared.fault.Code.{Code}
@@ -14,8 +15,10 @@ use Rattle.elm_grammar.specs.Classes as class
 use Rattle.elm_grammar.specs.Table.{elm}
 use Rattle.elm_faults.specs.declared.level.Level.{Level}
 use Rattle.elm_faults.specs.declared.scan.Frame.{Frame}
-use Rattle.elm_faults.specs.Faults.{is_one_of, openers, operators, is_of, entries, ends, stands_for, begins, is_named, annotates, is_empty, size, length_of, Decided, fault_if, same_name, lone}
-use Rattle.elm_faults.specs.Scan.{clashes, next_of, name_in, same_named, by_name, at_production, at_token, read, passed, below, push, scan}
+use Rattle.elm_faults.specs.Faults.{is_one_of, openers, operators, is_of, entries, ends, stands_for, begins, is_named}
+use Rattle.elm_faults.specs.Faults.{annotates, is_empty, size, length_of, Decided, fault_if, same_name, lone}
+use Rattle.elm_faults.specs.Scan.{clashes, next_of, name_in, same_named, by_name, at_production, at_token, read, passed}
+use Rattle.elm_faults.specs.Scan.{below, push, scan}
 
 -- ---- elements
 

@@ -1,5 +1,7 @@
 -- The faults that the steps of a derivation tell are those of the derivation.
-use Rattle.std.proofs.Common.{◌≡◌, ℕ, zero, suc, ◌+◌, ◌-◌, List, [], ◌∷◌, ◌++◌, length, Bool, true, false, not, ◌&&◌, ◌||◌, if◌then◌else◌, Option, Some, None, refl, sym, ap, subst, ◌∙◌, append_assoc, append-nil, add-zero, arith}
+use Rattle.std.proofs.Common.{◌≡◌, ℕ, zero, suc, ◌+◌, ◌-◌, List, [], ◌∷◌, ◌++◌, length, Bool, true, false, not, ◌&&◌}
+use Rattle.std.proofs.Common.{◌||◌, if◌then◌else◌, Option, Some, None, refl, sym, ap, subst, ◌∙◌, append_assoc}
+use Rattle.std.proofs.Common.{append-nil, add-zero, arith}
 use Rattle.std.specs.Prelude.{nat_eq}
 use Rattle.std.specs.List.{list_all}
 use Rattle.std.proofs.lemmas.Bool.Decides.{nat_tests}
@@ -9,11 +11,14 @@ use Rattle.parse_machine.specs.declared.table.Symbol.TheVariants.{Word, Part, Li
 use Rattle.parse_machine.specs.declared.table.Step.{Step}
 use Rattle.parse_machine.specs.declared.table.Step.TheVariants.{Take, Read}
 use Rattle.parse_machine.specs.declared.table.Token as machine
-use Rattle.parse_machine.specs.Grammar.{Production, ◌⟶◌, production, Place, Tree, leaf, word, node, Derives, nothing, a_word, a_node, a_part, a_line, a_block, steps_of}
+use Rattle.parse_machine.specs.Grammar.{Production, ◌⟶◌, production, Place, Tree, leaf, word, node, Derives, nothing}
+use Rattle.parse_machine.specs.Grammar.{a_word, a_node, a_part, a_line, a_block, steps_of}
 use Rattle.elm_grammar.specs.Classes as class
 use Rattle.elm_grammar.specs.Table.{elm}
 use Rattle.elm_faults.specs.declared.scan.Frame.{Frame}
-use Rattle.elm_faults.specs.Faults.{is_one_of, is_of, stands_for, length_of, size, begins, entries, ends, is_named, annotates, is_empty, Level, below, read, passed, name_of, Decided, at_token, same_name, lone, first_of, by_name, at_production, faults_in, faults_of, outermost}
+use Rattle.elm_faults.specs.Faults.{is_one_of, is_of, stands_for, length_of, size, begins, entries, ends, is_named}
+use Rattle.elm_faults.specs.Faults.{annotates, is_empty, Level, below, read, passed, name_of, Decided, at_token}
+use Rattle.elm_faults.specs.Faults.{same_name, lone, first_of, by_name, at_production, faults_in, faults_of, outermost}
 use Rattle.elm_faults.specs.Scan as scan
 use Rattle.elm_faults.specs.Scan.{next_of, push}
 use Rattle.elm_faults.proofs.Levels.{kept, below_kept, read_kept, token_kept}

@@ -1,6 +1,7 @@
 -- Where faults stand: which text goes on does not matter, and the faults that stand in the longest front that begins a
 -- text are those that its steps tell.
-use Rattle.std.proofs.Common.{◌≡◌, ℕ, suc, ◌+◌, ◌<◌, ◌≤◌, List, [], ◌∷◌, ◌++◌, length, Bool, true, false, ◌||◌, Option, Some, None, ◌⊎◌, inl, inr, refl, sym, ap, subst, ◌∙◌, append_assoc, append-nil, arith}
+use Rattle.std.proofs.Common.{◌≡◌, ℕ, suc, ◌+◌, ◌<◌, ◌≤◌, List, [], ◌∷◌, ◌++◌, length, Bool, true, false, ◌||◌, Option}
+use Rattle.std.proofs.Common.{Some, None, ◌⊎◌, inl, inr, refl, sym, ap, subst, ◌∙◌, append_assoc, append-nil, arith}
 use Rattle.std.specs.Prelude.{Contains, is_some, slice_index_or}
 use Rattle.std.proofs.lemmas.List.{append_cancel_left, length-append}
 use Rattle.std.proofs.lemmas.List.Elements.{Contains-append_cases}
@@ -11,7 +12,9 @@ use Rattle.parse_machine.specs.declared.table.Step.{Step}
 use Rattle.parse_machine.specs.declared.table.Step.TheVariants.{Take, Read}
 use Rattle.parse_machine.specs.declared.table.Row.{Row}
 use Rattle.parse_machine.specs.declared.table.Token as machine
-use Rattle.parse_machine.specs.Grammar.{Production, Holds, Place, inside, leading, Stands as StandsAt, Tree, leaf, word, node, Derives, nothing, a_word, a_node, Spells, steps_of, tokens_of, IsViable, IsLongest, IsFaultAt, IsFront, IsRefused}
+use Rattle.parse_machine.specs.Grammar.{Production, Holds, Place, inside, leading, Stands as StandsAt, Tree, leaf, word}
+use Rattle.parse_machine.specs.Grammar.{node, Derives, nothing, a_word, a_node, Spells, steps_of, tokens_of, IsViable}
+use Rattle.parse_machine.specs.Grammar.{IsLongest, IsFaultAt, IsFront, IsRefused}
 use Rattle.parse_machine.specs.Planned.{planned}
 use Rattle.parse_machine.specs.Rows.{plan_of}
 use Rattle.parse_machine.proofs.Stack.{frame, Reads, finished, closed, start}
@@ -20,7 +23,8 @@ use Rattle.parse_machine.proofs.Planning.{planned-is, start_ends}
 use Rattle.elm_grammar.specs.Classes.{classed, classed_from, class_by, other as no_class}
 use Rattle.elm_grammar.specs.Table.{elm}
 use Rattle.elm_faults.specs.Faults.{Decided, faults_of}
-use Rattle.elm_faults.specs.Standing.{Finding, finding, Numbered, Text, Within, Before, Stands, early, at_end, NotAfter, Finds}
+use Rattle.elm_faults.specs.Standing.{Finding, finding, Numbered, Text, Within, Before, Stands, early, at_end, NotAfter}
+use Rattle.elm_faults.specs.Standing.{Finds}
 use Rattle.elm_faults.specs.Scan.{scan, bottom, first_among}
 use Rattle.elm_faults.proofs.Agreeing.{together}
 use Rattle.elm_faults.proofs.Prefix.{By, Late, extends, scan_late, none_in}

@@ -1,7 +1,8 @@
 -- The faults of small texts, worked out.
 use Rattle.std.specs.Prelude.{◌≡◌, ℕ, List, [], ◌∷◌, map, Option, Some, None, codes}
 use Rattle.elm_base.specs.declared.fault.Code.TheVariants.{MixedOperators, TupleTooLarge, LoneAnnotation}
-use Rattle.elm_lexer.specs.declared.token.Kind.TheVariants.{Let, In, LowerName, UpperName, Int, OpenParen, CloseParen, Comma, Equals, Colon, Operator}
+use Rattle.elm_lexer.specs.declared.token.Kind.TheVariants.{Let, In, LowerName, UpperName, Int, OpenParen, CloseParen}
+use Rattle.elm_lexer.specs.declared.token.Kind.TheVariants.{Comma, Equals, Colon, Operator}
 use Rattle.elm_lexer.specs.Tokens.{Token}
 use Rattle.parse_machine.specs.Grammar.{Tree}
 use Rattle.elm_grammar.specs.Table as table

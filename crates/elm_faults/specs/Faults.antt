@@ -1,7 +1,8 @@
 -- The faults that the tokens up to a place decide: too many open constructs or operators, operators that do not group,
 -- a tuple of four parts, and an annotation that stands alone. Each is told from the derivation of a text. (Elm syntax
 -- reference; Elm guide: core language, types.)
-use Rattle.std.specs.Prelude.{ℕ, ◌+◌, ◌^◌, List, [], ◌∷◌, ◌++◌, map, length, Bool, false, ◌&&◌, if◌then◌else◌, nat_eq, nat_le, nat_lt, Option, Some, None}
+use Rattle.std.specs.Prelude.{ℕ, ◌+◌, ◌^◌, List, [], ◌∷◌, ◌++◌, map, length, Bool, false, ◌&&◌, if◌then◌else◌, nat_eq}
+use Rattle.std.specs.Prelude.{nat_le, nat_lt, Option, Some, None}
 use Rattle.std.specs.List.{list_any}
 use Rattle.std.specs.Str.{bytes_eq}
 use Rattle.elm_base.specs.declared.fault.Code.{Code}
@@ -13,7 +14,9 @@ use Rattle.parse_machine.specs.declared.table.Symbol.TheVariants.{Word}
 use Rattle.parse_machine.specs.declared.table.Token as machine
 use Rattle.parse_machine.specs.Grammar.{Production, ◌⟶◌, production, Tree, leaf, word, node}
 use Rattle.elm_grammar.specs.Classes as class
-use Rattle.elm_grammar.specs.Table.{elm, Module, PortFirst, AfterPort, Contents, Declarations, Declaration, PortDeclaration, Definitions, MoreDefinitions, Definition, Operators, OperatorRight, ParenRest, TypeTuple, PatternTuple}
+use Rattle.elm_grammar.specs.Table.{elm, Module, PortFirst, AfterPort, Contents, Declarations, Declaration}
+use Rattle.elm_grammar.specs.Table.{PortDeclaration, Definitions, MoreDefinitions, Definition, Operators, OperatorRight}
+use Rattle.elm_grammar.specs.Table.{ParenRest, TypeTuple, PatternTuple}
 
 -- ---- which productions
 

@@ -1,6 +1,7 @@
 -- The faults of a derivation told from its steps, from left to right. What the program keeps of a level are counts of
 -- what may still come, and for each level of operators the side of the nearest one.
-use Rattle.std.specs.Prelude.{ℕ, zero, suc, ◌-◌, List, [], ◌∷◌, ◌++◌, replicate, Bool, false, ◌&&◌, ◌||◌, if◌then◌else◌, nat_eq, nat_lt, is_some, get_or, Option, Some, None, option_map}
+use Rattle.std.specs.Prelude.{ℕ, zero, suc, ◌-◌, List, [], ◌∷◌, ◌++◌, replicate, Bool, false, ◌&&◌, ◌||◌, if◌then◌else◌}
+use Rattle.std.specs.Prelude.{nat_eq, nat_lt, is_some, get_or, Option, Some, None, option_map}
 use Rattle.elm_base.specs.declared.fault.Code.TheVariants.{TooDeep, MixedOperators, TupleTooLarge}
 use Rattle.elm_lexer.specs.Tokens.{Token}
 use Rattle.elm_tree.specs.Tree.{Word}
@@ -14,7 +15,8 @@ use Rattle.elm_grammar.specs.Classes as class
 use Rattle.elm_faults.specs.declared.level.Level.{Level}
 use Rattle.elm_faults.specs.declared.scan.Frame.{Frame}
 use Rattle.elm_faults.specs.declared.finding.Finding as declared
-use Rattle.elm_faults.specs.Faults.{is_one_of, is_of, begins_with, openers, operators, lists, ends, entries, is_named, annotates, size, is_empty, Decided, fault_if, same_name, lone}
+use Rattle.elm_faults.specs.Faults.{is_one_of, is_of, begins_with, openers, operators, lists, ends, entries, is_named}
+use Rattle.elm_faults.specs.Faults.{annotates, size, is_empty, Decided, fault_if, same_name, lone}
 use Rattle.elm_faults.specs.Standing.{Finding, finding, number_of}
 
 -- ---- levels

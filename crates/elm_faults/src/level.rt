@@ -4,7 +4,8 @@ ghost use Rattle.std.specs.Prelude.{◌≡◌, ◌≤◌, ◌-◌, ◌&&◌, map
 ghost use Rattle.elm_lexer.specs.View.{token_view};
 ghost use Rattle.elm_tree.specs.Regroup.{level_of};
 ghost use Rattle.elm_faults.specs.Faults.{begins_with, openers, is_one_of, operators, same_name};
-ghost use Rattle.elm_faults.specs.Scan.{outermost, below, slot, sides_after, operator_word, with_operator, with_comma, read, clash_with, clashes, name_in, annotated_by, passed};
+ghost use Rattle.elm_faults.specs.Scan.{outermost, below, slot, sides_after, operator_word, with_operator, with_comma};
+ghost use Rattle.elm_faults.specs.Scan.{read, clash_with, clashes, name_in, annotated_by, passed};
 
 use crate::production::{annotates, goes_on, is_entry, is_named, is_operator, opens};
 use elm_lexer::token::Token;

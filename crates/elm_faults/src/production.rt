@@ -5,7 +5,8 @@ ghost use Rattle.std.specs.List.{list_any};
 ghost use Rattle.elm_grammar.specs.Table.{elm};
 ghost use Rattle.parse_machine.specs.Grammar.{production};
 ghost use Rattle.parse_machine.specs.Rows.{production_of};
-ghost use Rattle.elm_faults.specs.Faults.{first_word, is_one_of, openers, operators, lists, entries, is_of, begins_with, is_named, annotates, size, is_empty, ends};
+ghost use Rattle.elm_faults.specs.Faults.{first_word, is_one_of, openers, operators, lists, entries, is_of};
+ghost use Rattle.elm_faults.specs.Faults.{begins_with, is_named, annotates, size, is_empty, ends};
 
 use elm_grammar::table::rules;
 use parse_machine::table::{Rule, Symbol};

@@ -4,7 +4,8 @@ ghost use Rattle.std.specs.Prelude.{◌≡◌, ◌&&◌, List, None, Some, map, 
 ghost use Rattle.elm_lexer.specs.View.{token_view};
 ghost use Rattle.elm_grammar.specs.Classes.{comma};
 ghost use Rattle.elm_faults.specs.Faults.{is_one_of, openers, operators};
-ghost use Rattle.elm_faults.specs.Scan.{found_view, first_among, at_token, next_of, same_named, by_name, after_annotation, at_production, push, bottom, scan};
+ghost use Rattle.elm_faults.specs.Scan.{found_view, first_among, at_token, next_of, same_named, by_name};
+ghost use Rattle.elm_faults.specs.Scan.{after_annotation, at_production, push, bottom, scan};
 
 use crate::finding::{Finding, note, note_lone};
 use crate::level::{COMMA, Level, same_name};
@@ -47,7 +48,8 @@ fn at_token(
     found: Option<Finding>,
     ended: bool,
 ) -> Option<Finding>
-    ensures { found_view result ≡ first_among ended (found_view found) (at_token (map token_view tokens.now) level.now token) }
+    ensures { found_view result ≡ first_among ended (found_view found)
+        (at_token (map token_view tokens.now) level.now token) }
 {
     let found = note(
         found,
@@ -106,7 +108,8 @@ fn by_name(
     found: Option<Finding>,
     ended: bool,
 ) -> Option<Finding>
-    ensures { found_view result ≡ first_among ended (found_view found) (by_name (map token_view tokens.now) annotated steps.now) }
+    ensures { found_view result ≡ first_among ended (found_view found)
+        (by_name (map token_view tokens.now) annotated steps.now) }
 {
     match steps {
         [Step::Read(name), after @ ..] => {
@@ -128,7 +131,8 @@ fn after_annotation(
     found: Option<Finding>,
     ended: bool,
 ) -> Option<Finding>
-    ensures { found_view result ≡ first_among ended (found_view found) (after_annotation (map token_view tokens.now) annotated number steps.now) }
+    ensures { found_view result ≡ first_among ended (found_view found)
+        (after_annotation (map token_view tokens.now) annotated number steps.now) }
 {
     if is_named(number) {
         by_name(tokens, annotated, steps, found, ended)
@@ -150,7 +154,8 @@ fn at_production(
     found: Option<Finding>,
     ended: bool,
 ) -> Option<Finding>
-    ensures { found_view result ≡ first_among ended (found_view found) (at_production (map token_view tokens.now) annotated number steps.now) }
+    ensures { found_view result ≡ first_among ended (found_view found)
+        (at_production (map token_view tokens.now) annotated number steps.now) }
 {
     match annotated {
         Some(name) => after_annotation(tokens, name, number, steps, found, ended),
@@ -176,7 +181,8 @@ pub(crate) fn scan(
     steps: &[Step],
     ended: bool,
 ) -> Result<Option<Finding>, AllocError>
-    ensures { IfOk result (λ r. found_view r ≡ first_among ended None (scan (map token_view tokens.now) bottom steps.now)) }
+    ensures { IfOk result (λ r. found_view r ≡ first_among ended None
+        (scan (map token_view tokens.now) bottom steps.now)) }
 {
     let mut stack = Vec::new(alloc);
     push(&mut stack, 1, Level::outermost(257))?;

@@ -1,5 +1,6 @@
 -- The tree of a map from texts to files.
-use Rattle.std.proofs.Common.{◌≡◌, ◌∙◌, ℕ, String, Bool, true, false, List, Option, option_map, refl, ap, if◌then◌else◌, nat_cmp}
+use Rattle.std.proofs.Common.{◌≡◌, ◌∙◌, ℕ, String, Bool, true, false, List, Option, option_map, refl, ap, if◌then◌else◌}
+use Rattle.std.proofs.Common.{nat_cmp}
 use mathlib.Core.Path.{fun_ext}
 use Rattle.std.specs.Str.{bytes_eq}
 use Rattle.std.specs.String.{string_bytes, string_cmp}

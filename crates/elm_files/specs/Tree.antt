@@ -1,5 +1,6 @@
 -- Trees of files, and the change of one file.
-use Rattle.std.specs.Prelude.{◌≡◌, ◌≢◌, ◌≤◌, ◌<◌, ℕ, List, length, Option, None, Some, option_map, is_some, IsSomeAnd, if◌then◌else◌}
+use Rattle.std.specs.Prelude.{◌≡◌, ◌≢◌, ◌≤◌, ◌<◌, ℕ, List, length, Option, None, Some, option_map, is_some, IsSomeAnd}
+use Rattle.std.specs.Prelude.{if◌then◌else◌}
 use Rattle.std.specs.Str.{bytes_eq}
 use Rattle.elm_files.specs.declared.outside.Got.{Got}
 use Rattle.elm_files.specs.declared.outside.Got.TheVariants.{Absent, Bytes, TooLong}

@@ -1,7 +1,8 @@
 //! Files and a sink in memory, for tests and for builds that touch no disk.
 ghost use Rattle.std.specs.Prelude.{◌≡◌, ◌↔◌, ◌++◌, [], Contains, IfOk, IsTrue, None, OnErr, OnOk, Some, option_map};
 ghost use Rattle.elm_files.specs.Answers.{IsFailed, OnFailed, OnNoMemory};
-ghost use Rattle.elm_files.specs.Memory.{empty_tree, files_in, one_failed, one_made, plan_after, plan_in, plan_of, sink_plan_of, text_in};
+ghost use Rattle.elm_files.specs.Memory.{empty_tree, files_in, one_failed, one_made, plan_after, plan_in, plan_of};
+ghost use Rattle.elm_files.specs.Memory.{sink_plan_of, text_in};
 ghost use Rattle.elm_files.specs.Texts.{LongerByPart};
 ghost use Rattle.elm_files.specs.Tree.{IsReadOf, IsWithin, SameElsewhere, put};
 
@@ -150,7 +151,8 @@ impl Files for MemFiles {
         ensures ok { OnOk result (files_in self.new ≡ put (files_in self.old) path.now (Some bytes.now)) }
         ensures removed { OnFailed result (files_in self.new ≡ put (files_in self.old) path.now None) }
         ensures no_memory { OnNoMemory result (files_in self.new ≡ files_in self.old) }
-        ensures elsewhere { OnFailed result (SameElsewhere path.now (Some (files_in self.old)) (Some (files_in self.new))) }
+        ensures elsewhere { OnFailed result (SameElsewhere path.now (Some (files_in self.old))
+            (Some (files_in self.new))) }
         ensures failed { IsFailed result ↔ Contains (plan_of self.old).failing (plan_of self.old).calls }
         ensures plan { plan_of self.new ≡ plan_after result (plan_of self.old) }
     {

@@ -1,12 +1,14 @@
 -- What the search finds is a derivation, and what it computes is the value of one.
-use Rattle.std.proofs.Common.{◌≡◌, ℕ, zero, suc, ◌+◌, ◌/◌, ◌%◌, ◌^◌, ◌<◌, Bool, true, false, ◌&&◌, nat_lt, nat_eq, List, [], ◌∷◌, Option, Some, None, refl, sym, ap, subst, ◌∙◌, arith}
+use Rattle.std.proofs.Common.{◌≡◌, ℕ, zero, suc, ◌+◌, ◌/◌, ◌%◌, ◌^◌, ◌<◌, Bool, true, false, ◌&&◌, nat_lt, nat_eq, List}
+use Rattle.std.proofs.Common.{[], ◌∷◌, Option, Some, None, refl, sym, ap, subst, ◌∙◌, arith}
 use Rattle.std.proofs.lemmas.Bool.{eqb-true, ltb-true}
 use Rattle.elm_lexer.specs.Tokens.{Token}
 use Rattle.elm_tree.specs.Words.{token_at}
 use Rattle.parse_machine.specs.declared.table.Symbol.{Symbol}
 use Rattle.parse_machine.specs.declared.table.Symbol.TheVariants.{Word, Part, Line, Block}
 use Rattle.parse_machine.specs.declared.table.Token as machine
-use Rattle.parse_machine.specs.Grammar.{Production, ◌⟶◌, production, Is, Holds, Place, inside, leading, Stands, Tree, leaf, node, Derives, nothing, a_word, a_node, a_part, a_line, a_block}
+use Rattle.parse_machine.specs.Grammar.{Production, ◌⟶◌, production, Is, Holds, Place, inside, leading, Stands, Tree}
+use Rattle.parse_machine.specs.Grammar.{leaf, node, Derives, nothing, a_word, a_node, a_part, a_line, a_block}
 use Rattle.parse_machine.specs.Grammar as grammar
 use Rattle.elm_grammar.specs.declared.action.Item.{Item}
 use Rattle.elm_grammar.specs.declared.action.Item.TheVariants as item
@@ -15,7 +17,9 @@ use Rattle.elm_grammar.specs.Table.{elm}
 use Rattle.elm_grammar.specs.Values.{Kind, One, Many, Thing, thing_of, takes, gives}
 use Rattle.elm_grammar.specs.Meaning.{Things, none, ◌⸴◌, action_at, made, Means, Spells}
 use Rattle.elm_grammar.specs.Meaning as meaning
-use Rattle.elm_grammar.specs.Search.{stands, holds, Numbered, with_option, options_from, options, Found, Task, Derive, Matched, Among, Tried, put_word, put_node, seek, cast, cast_thing, paired, cast_made, values, only, whole, derived, value_of, read}
+use Rattle.elm_grammar.specs.Search.{stands, holds, Numbered, with_option, options_from, options, Found, Task, Derive}
+use Rattle.elm_grammar.specs.Search.{Matched, Among, Tried, put_word, put_node, seek, cast, cast_thing, paired}
+use Rattle.elm_grammar.specs.Search.{cast_made, values, only, whole, derived, value_of, read}
 
 both_true : (a b : Bool) → (a && b) ≡ true → (a ≡ true) × (b ≡ true)
 both_true true b e = (refl, e)

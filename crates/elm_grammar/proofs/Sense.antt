@@ -5,7 +5,8 @@ use Rattle.elm_tree.specs.Words.{token_at}
 use Rattle.parse_machine.specs.declared.table.Symbol.{Symbol}
 use Rattle.parse_machine.specs.declared.table.Symbol.TheVariants.{Word, Part, Line, Block}
 use Rattle.parse_machine.specs.declared.table.Token as machine
-use Rattle.parse_machine.specs.Grammar.{◌⟶◌, production, Is, Place, Calls, a_part, a_line, a_block, Tree, leaf, node, Derives}
+use Rattle.parse_machine.specs.Grammar.{◌⟶◌, production, Is, Place, Calls, a_part, a_line, a_block, Tree, leaf, node}
+use Rattle.parse_machine.specs.Grammar.{Derives}
 use Rattle.parse_machine.specs.Grammar as grammar
 use Rattle.elm_grammar.specs.declared.action.Item.TheVariants as item
 use Rattle.elm_grammar.specs.Table.{elm, elm_rules, elm_actions, Ruled, ◌by◌, rule, action}

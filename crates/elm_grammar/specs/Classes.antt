@@ -3,7 +3,12 @@ use Rattle.std.specs.Prelude.{ℕ, suc, ◌+◌, Bool, true, false, ◌&&◌, if
 use Rattle.std.specs.List.{list_any}
 use Rattle.std.specs.Str.{bytes_eq}
 use Rattle.elm_lexer.specs.declared.token.Kind.{Kind}
-use Rattle.elm_lexer.specs.declared.token.Kind.TheVariants.{If, Then, Else, Case, Of, Let, In, «Type», Module, Import, Exposing, As, Port, LowerName, UpperName, QualifiedLower, QualifiedUpper, Int, Text, Char, Field, Underscore, OpenParen, CloseParen, OpenBrace, CloseBrace, OpenBracket, CloseBracket, Comma, Backslash, Equals, Arrow, Colon, Bar, Dots, Operator}
+use Rattle.elm_lexer.specs.declared.token.Kind.TheVariants.{If, Then, Else, Case, Of, Let, In, «Type», Module, Import}
+use Rattle.elm_lexer.specs.declared.token.Kind.TheVariants.{Exposing, As, Port, LowerName, UpperName, QualifiedLower}
+use Rattle.elm_lexer.specs.declared.token.Kind.TheVariants.{QualifiedUpper, Int, Text, Char, Field, Underscore}
+use Rattle.elm_lexer.specs.declared.token.Kind.TheVariants.{OpenParen, CloseParen, OpenBrace, CloseBrace, OpenBracket}
+use Rattle.elm_lexer.specs.declared.token.Kind.TheVariants.{CloseBracket, Comma, Backslash, Equals, Arrow, Colon, Bar}
+use Rattle.elm_lexer.specs.declared.token.Kind.TheVariants.{Dots, Operator}
 use Rattle.elm_lexer.specs.Tokens.{Token}
 use Rattle.parse_machine.specs.declared.table.Token as machine
 

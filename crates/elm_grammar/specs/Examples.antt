@@ -1,10 +1,18 @@
 -- Small texts, worked out: the trees that they spell.
 use Rattle.std.specs.Prelude.{◌≡◌, ℕ, pos, List, [], ◌∷◌, Bool, true, false, Option, Some, None, codes}
 use Rattle.elm_lexer.specs.declared.token.Kind.{Kind}
-use Rattle.elm_lexer.specs.declared.token.Kind.TheVariants.{Case, Of, Let, In, «Type», Module, Exposing, Port, As, LowerName, UpperName, QualifiedLower, QualifiedUpper, Int, Text, Field, Underscore, OpenParen, CloseParen, OpenBrace, CloseBrace, Comma, Equals, Arrow, Colon, Bar, Dots, Backslash, Operator}
+use Rattle.elm_lexer.specs.declared.token.Kind.TheVariants.{Case, Of, Let, In, «Type», Module, Exposing, Port, As}
+use Rattle.elm_lexer.specs.declared.token.Kind.TheVariants.{LowerName, UpperName, QualifiedLower, QualifiedUpper, Int}
+use Rattle.elm_lexer.specs.declared.token.Kind.TheVariants.{Text, Field, Underscore, OpenParen, CloseParen, OpenBrace}
+use Rattle.elm_lexer.specs.declared.token.Kind.TheVariants.{CloseBrace, Comma, Equals, Arrow, Colon, Bar, Dots}
+use Rattle.elm_lexer.specs.declared.token.Kind.TheVariants.{Backslash, Operator}
 use Rattle.elm_lexer.specs.Tokens.{Token}
 use Rattle.elm_tree.specs.Tree as tree
-use Rattle.elm_tree.specs.Tree.{Pos, Word, Long, Expr, Is, IntL, OperatorName, Accessor, Lambda, Apply, Chain, Negate, Update, Access, NoExpr, MoreExpr, NoPart, MorePart, NoBranch, MoreBranch, NoDefinition, MoreDefinition, Define, Anything, Named, ConsPattern, Construct, Exactly, NoPattern, MorePattern, TypeVariable, TypeName, FunctionType, TupleType, NoType, MoreType, Value, Alias, Everything}
+use Rattle.elm_tree.specs.Tree.{Pos, Word, Long, Expr, Is, IntL, OperatorName, Accessor, Lambda, Apply, Chain, Negate}
+use Rattle.elm_tree.specs.Tree.{Update, Access, NoExpr, MoreExpr, NoPart, MorePart, NoBranch, MoreBranch, NoDefinition}
+use Rattle.elm_tree.specs.Tree.{MoreDefinition, Define, Anything, Named, ConsPattern, Construct, Exactly, NoPattern}
+use Rattle.elm_tree.specs.Tree.{MorePattern, TypeVariable, TypeName, FunctionType, TupleType, NoType, MoreType, Value}
+use Rattle.elm_tree.specs.Tree.{Alias, Everything}
 use Rattle.elm_grammar.specs.Table as table
 use Rattle.elm_grammar.specs.Values.{expr, shape, type_tree, One}
 use Rattle.elm_grammar.specs.declared.action.Item.TheVariants as item

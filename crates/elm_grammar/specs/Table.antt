@@ -8,7 +8,24 @@ use Rattle.parse_machine.specs.declared.table.Symbol.TheVariants.{Word, Part, Li
 use Rattle.parse_machine.specs.Grammar.{Production, ◌⟶◌}
 use Rattle.elm_grammar.specs.Classes as class
 use Rattle.elm_grammar.specs.declared.action.Action.{Action}
-use Rattle.elm_grammar.specs.declared.action.Action.TheVariants.{Same, WithHeader, WithImport, WithDeclaration, EmptyModule, Second, PortModule, FirstPort, HeaderOf, PortHeader, ExposeAll, ExposeThese, ExposeWord, ExposeUpper, ExposeOperator, Opening, Empty, Comma, End, ImportOf, SecondAsList, ExposeNothing, PortOf, ValueOf, AliasOf, UnionOf, More, ConstructorOf, AnnotationRest, FunctionRest, ConstantRest, ArrowsOf, NamedType, NamedTypeAlone, VariableType, BracketType, EmptyRecordType, RecordTypeOf, MoreFieldTypes, ChainOf, MoreOperators, OperandThen, LastOperand, Applied, Negative, NegativeArgument, IfOf, CaseOf, LetOf, LambdaOf, BranchOf, DefinitionOf, DestructureOf, ConstructAlone, WordAccess, WordExpr, BracketAccess, ListOf, RecordAccess, OperatorAlone, MinusParen, MinusAlone, MinusOperand, UnsignedOf, EmptyRecord, RecordOf, MoreFields, PatternOf, ConstructOf, WordPattern, NegativePattern, BracketPattern, ListPatternOf, FieldsPatternOf}
+use Rattle.elm_grammar.specs.declared.action.Action.TheVariants.{Same, WithHeader, WithImport, WithDeclaration}
+use Rattle.elm_grammar.specs.declared.action.Action.TheVariants.{EmptyModule, Second, PortModule, FirstPort, HeaderOf}
+use Rattle.elm_grammar.specs.declared.action.Action.TheVariants.{PortHeader, ExposeAll, ExposeThese, ExposeWord}
+use Rattle.elm_grammar.specs.declared.action.Action.TheVariants.{ExposeUpper, ExposeOperator, Opening, Empty, Comma}
+use Rattle.elm_grammar.specs.declared.action.Action.TheVariants.{End, ImportOf, SecondAsList, ExposeNothing, PortOf}
+use Rattle.elm_grammar.specs.declared.action.Action.TheVariants.{ValueOf, AliasOf, UnionOf, More, ConstructorOf}
+use Rattle.elm_grammar.specs.declared.action.Action.TheVariants.{AnnotationRest, FunctionRest, ConstantRest, ArrowsOf}
+use Rattle.elm_grammar.specs.declared.action.Action.TheVariants.{NamedType, NamedTypeAlone, VariableType, BracketType}
+use Rattle.elm_grammar.specs.declared.action.Action.TheVariants.{EmptyRecordType, RecordTypeOf, MoreFieldTypes, ChainOf}
+use Rattle.elm_grammar.specs.declared.action.Action.TheVariants.{MoreOperators, OperandThen, LastOperand, Applied}
+use Rattle.elm_grammar.specs.declared.action.Action.TheVariants.{Negative, NegativeArgument, IfOf, CaseOf, LetOf}
+use Rattle.elm_grammar.specs.declared.action.Action.TheVariants.{LambdaOf, BranchOf, DefinitionOf, DestructureOf}
+use Rattle.elm_grammar.specs.declared.action.Action.TheVariants.{ConstructAlone, WordAccess, WordExpr, BracketAccess}
+use Rattle.elm_grammar.specs.declared.action.Action.TheVariants.{ListOf, RecordAccess, OperatorAlone, MinusParen}
+use Rattle.elm_grammar.specs.declared.action.Action.TheVariants.{MinusAlone, MinusOperand, UnsignedOf, EmptyRecord}
+use Rattle.elm_grammar.specs.declared.action.Action.TheVariants.{RecordOf, MoreFields, PatternOf, ConstructOf}
+use Rattle.elm_grammar.specs.declared.action.Action.TheVariants.{WordPattern, NegativePattern, BracketPattern}
+use Rattle.elm_grammar.specs.declared.action.Action.TheVariants.{ListPatternOf, FieldsPatternOf}
 use Rattle.elm_grammar.specs.declared.action.Item.TheVariants as item
 
 -- a production, and what is made of the values of its symbols

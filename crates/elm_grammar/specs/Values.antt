@@ -2,7 +2,12 @@
 use Rattle.std.specs.Prelude.{ℕ, List, [], ◌∷◌, map, Bool, true, false, Option, Some, None}
 use Rattle.elm_lexer.specs.Tokens.{Token}
 use Rattle.elm_tree.specs.Tree as tree
-use Rattle.elm_tree.specs.Tree.{Pos, Word, TypeTree, TypeVariable, TypeName, FunctionType, TupleType, RecordType, ExtendedType, NoType, NoFieldType, Pattern, Patterns, NoPattern, As, Exactly, Construct, ConsPattern, ListPattern, TuplePattern, FieldsPattern, Expr, Lambda, Apply, Chain, Negate, If, Case, Let, ListOf, TupleOf, RecordOf, Update, Access, Definition, Annotate, Define, Destructure, Declaration, Value, Port, Union, Alias, Everything, These, types_of, field_types_of, patterns_of, exprs_of, parts_of, branches_of, definitions_of}
+use Rattle.elm_tree.specs.Tree.{Pos, Word, TypeTree, TypeVariable, TypeName, FunctionType, TupleType, RecordType}
+use Rattle.elm_tree.specs.Tree.{ExtendedType, NoType, NoFieldType, Pattern, Patterns, NoPattern, As, Exactly, Construct}
+use Rattle.elm_tree.specs.Tree.{ConsPattern, ListPattern, TuplePattern, FieldsPattern, Expr, Lambda, Apply, Chain}
+use Rattle.elm_tree.specs.Tree.{Negate, If, Case, Let, ListOf, TupleOf, RecordOf, Update, Access, Definition, Annotate}
+use Rattle.elm_tree.specs.Tree.{Define, Destructure, Declaration, Value, Port, Union, Alias, Everything, These}
+use Rattle.elm_tree.specs.Tree.{types_of, field_types_of, patterns_of, exprs_of, parts_of, branches_of, definitions_of}
 use Rattle.elm_tree.specs.Words.{pos_of, word_of, field_of, long_of, negative_of, expr_of, pattern_of, exposed_of}
 use Rattle.elm_grammar.specs.declared.action.Item.{Item}
 use Rattle.elm_grammar.specs.declared.action.Item.TheVariants as item

@@ -3,7 +3,8 @@
 ghost use Rattle.std.specs.Prelude.{◌≡◌, ◌^◌, ◌<◌, length, map, IfOk};
 ghost use Rattle.std.specs.Str.{bytes_eq};
 ghost use Rattle.elm_lexer.specs.View.{token_view};
-ghost use Rattle.elm_grammar.specs.Classes.{ends_operand, name_class, field_class, minus_class, operator_class, plain_class, word_class, class_by, classed};
+ghost use Rattle.elm_grammar.specs.Classes.{ends_operand, name_class, field_class, minus_class, operator_class};
+ghost use Rattle.elm_grammar.specs.Classes.{plain_class, word_class, class_by, classed};
 
 use elm_lexer::token::{Kind, Token};
 use parse_machine::table::Token as Classed;

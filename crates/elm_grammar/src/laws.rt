@@ -3,7 +3,10 @@
 ghost use Rattle.std.specs.Prelude.{IsTrue};
 ghost use Rattle.elm_grammar.specs.Kinded.{is_kinded};
 ghost use Rattle.elm_grammar.specs.Laws.{EachHasValue, OneValue, ReadSpells};
-ghost use Rattle.elm_grammar.specs.Examples.{NegativeArgument, Difference, TightDifference, NegatedFunction, MinusApart, MinusFunction, BracketedNegative, FlatChain, Accesses, BracketAccess, Updated, LastOperand, Branches, OtherColumn, InLet, ArrowType, NamedPattern, AliasName, PortModule};
+ghost use Rattle.elm_grammar.specs.Examples.{NegativeArgument, Difference, TightDifference, NegatedFunction};
+ghost use Rattle.elm_grammar.specs.Examples.{MinusApart, MinusFunction, BracketedNegative, FlatChain, Accesses};
+ghost use Rattle.elm_grammar.specs.Examples.{BracketAccess, Updated, LastOperand, Branches, OtherColumn, InLet};
+ghost use Rattle.elm_grammar.specs.Examples.{ArrowType, NamedPattern, AliasName, PortModule};
 
 /// Each action fits its production.
 pub fn kinds_law()

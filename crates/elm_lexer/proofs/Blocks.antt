@@ -1,7 +1,9 @@
 -- Block comments and gaps: what one step does, that what follows is determined, and that it is an end of the text.
-use Rattle.std.proofs.Common.{◌≡◌, ℕ, suc, zero, ◌+◌, ◌-◌, ◌<◌, ◌≤◌, List, [], ◌∷◌, ◌++◌, length, take, drop, Bool, true, false, ◌||◌, ◌==◌, sym, refl, ap, subst, ◌∙◌, arith}
+use Rattle.std.proofs.Common.{◌≡◌, ℕ, suc, zero, ◌+◌, ◌-◌, ◌<◌, ◌≤◌, List, [], ◌∷◌, ◌++◌, length, take, drop, Bool}
+use Rattle.std.proofs.Common.{true, false, ◌||◌, ◌==◌, sym, refl, ap, subst, ◌∙◌, arith}
 use Rattle.elm_lexer.specs.Characters.{is_white}
-use Rattle.elm_lexer.specs.Gaps.{begins_with, begins_line, begins_block, ends_block, begins_gap, after_line, IsBlock, ended, opens, closes, goes_on, IsGap, white, line, block}
+use Rattle.elm_lexer.specs.Gaps.{begins_with, begins_line, begins_block, ends_block, begins_gap, after_line, IsBlock}
+use Rattle.elm_lexer.specs.Gaps.{ended, opens, closes, goes_on, IsGap, white, line, block}
 use Rattle.elm_lexer.proofs.Basics.{and_true, true_false, or_left, eq_true, rest_of}
 
 pub begins_as : (a b : ℕ) (t : List ℕ) → begins_with a b t ≡ true → t ≡ a ∷ b ∷ drop 2 t

@@ -1,5 +1,6 @@
 -- The loop over a text: what was found, and then what the rest has, is what the text has.
-use Rattle.std.proofs.Common.{◌≡◌, ℕ, ◌-◌, ◌<◌, List, [], ◌∷◌, ◌++◌, length, take, drop, map, Bool, true, false, Option, None, sym, refl, ap, subst, ◌∙◌, arith, append_assoc, append-nil, length-append}
+use Rattle.std.proofs.Common.{◌≡◌, ℕ, ◌-◌, ◌<◌, List, [], ◌∷◌, ◌++◌, length, take, drop, map, Bool, true, false, Option}
+use Rattle.std.proofs.Common.{None, sym, refl, ap, subst, ◌∙◌, arith, append_assoc, append-nil, length-append}
 use Rattle.std.proofs.Common.{◌==◌}
 use Rattle.std.proofs.lemmas.Bool.Decides.{nat_tests}
 use Rattle.std.specs.Str.{IsUtf8, IsCharBoundary}
@@ -11,7 +12,8 @@ use Rattle.elm_lexer.specs.declared.first.First.{First}
 use Rattle.elm_lexer.specs.declared.first.First.TheVariants as first
 use Rattle.elm_lexer.specs.Firsts.{IsFirst, first_in}
 use Rattle.elm_lexer.specs.Gaps.{begins_gap, IsGap}
-use Rattle.elm_lexer.specs.Tokens.{Place, Token, Fault, behind, token_at, fault_at, Reads, no_more, open_comment, token, first_place, HasFault, not_utf8, ends}
+use Rattle.elm_lexer.specs.Tokens.{Place, Token, Fault, behind, token_at, fault_at, Reads, no_more, open_comment, token}
+use Rattle.elm_lexer.specs.Tokens.{first_place, HasFault, not_utf8, ends}
 use Rattle.elm_lexer.proofs.Basics.{front_of}
 use Rattle.elm_lexer.proofs.Blocks.{gap_end}
 use Rattle.elm_lexer.proofs.Starts.{first_is, token_cut}

@@ -1,5 +1,6 @@
 -- Each name without points among the tokens is a word.
-use Rattle.std.proofs.Common.{◌≡◌, ℕ, ◌<◌, List, [], ◌∷◌, ◌++◌, take, drop, Bool, true, false, Option, Some, None, nat_le, ◌||◌, refl, sym, ap, subst, ◌∙◌, arith}
+use Rattle.std.proofs.Common.{◌≡◌, ℕ, ◌<◌, List, [], ◌∷◌, ◌++◌, take, drop, Bool, true, false, Option, Some, None}
+use Rattle.std.proofs.Common.{nat_le, ◌||◌, refl, sym, ap, subst, ◌∙◌, arith}
 use Rattle.std.specs.Prelude.{if◌then◌else◌, option_and_then, ◌==◌, encode_utf8_all, ⊤}
 use Rattle.std.specs.List.{list_any, list_all}
 use Rattle.std.specs.Str.{bytes_eq, IsUtf8, chars}
@@ -8,13 +9,17 @@ use Rattle.std.proofs.lemmas.List.Elements.{All-nil, All-cons}
 use Rattle.std.proofs.lemmas.Str.{encode_ascii, encodes-append, encodes-chars}
 use Rattle.elm_base.specs.Path.{is_name_char}
 use Rattle.elm_lexer.specs.declared.token.Kind.{Kind}
-use Rattle.elm_lexer.specs.declared.token.Kind.TheVariants.{Int, Text, Char, LowerName, UpperName, QualifiedLower, QualifiedUpper, Backslash, Operator}
+use Rattle.elm_lexer.specs.declared.token.Kind.TheVariants.{Int, Text, Char, LowerName, UpperName, QualifiedLower}
+use Rattle.elm_lexer.specs.declared.token.Kind.TheVariants.{QualifiedUpper, Backslash, Operator}
 use Rattle.elm_lexer.specs.Characters.{is_letter, is_upper, is_lower, is_digit, is_mark, is_operator_char}
-use Rattle.elm_lexer.specs.Kinds.{kind_in, reserved_kinds, marks, operators, begins_upper, begins_field, field_of, field_kind, last_word, name_kind, number_value, int_of, wildcard_kind, kind_of}
+use Rattle.elm_lexer.specs.Kinds.{kind_in, reserved_kinds, marks, operators, begins_upper, begins_field, field_of}
+use Rattle.elm_lexer.specs.Kinds.{field_kind, last_word, name_kind, number_value, int_of, wildcard_kind, kind_of}
 use Rattle.elm_lexer.specs.Literals.{is_character, literal_kind}
-use Rattle.elm_lexer.specs.Pieces.{is_word, is_upper_word, IsName, word, joined, IsPiece, name, number, wildcard, field, mark, operator, SpellsPiece}
+use Rattle.elm_lexer.specs.Pieces.{is_word, is_upper_word, IsName, word, joined, IsPiece, name, number, wildcard, field}
+use Rattle.elm_lexer.specs.Pieces.{mark, operator, SpellsPiece}
 use Rattle.elm_lexer.specs.Names.{is_lower_word, SpellsName, AreNames}
-use Rattle.elm_lexer.specs.Tokens.{Place, Token, Fault, Reads, no_more, gap, open_comment, token, fault, token_at, Tokens}
+use Rattle.elm_lexer.specs.Tokens.{Place, Token, Fault, Reads, no_more, gap, open_comment, token, fault, token_at}
+use Rattle.elm_lexer.specs.Tokens.{Tokens}
 use Rattle.elm_lexer.proofs.Basics.{and_true, both_true, true_false}
 use Rattle.elm_lexer.proofs.Starts.{TokenOf, of_piece, of_literal, token_is}
 use Rattle.elm_lexer.proofs.Pieces.{digit_letter, mark_letter, operator_letter, mark_below, operator_below}

@@ -1,7 +1,9 @@
 -- The length that the program finds is that of the longest piece.
-use Rattle.std.proofs.Common.{◌≡◌, ℕ, ◌+◌, ◌<◌, ◌≤◌, List, [], ◌∷◌, ◌++◌, length, take, drop, zero, suc, Bool, true, false, not, nat_lt, ◌&&◌, ◌||◌, ◌==◌, sym, refl, ap, subst, ◌∙◌, arith}
+use Rattle.std.proofs.Common.{◌≡◌, ℕ, ◌+◌, ◌<◌, ◌≤◌, List, [], ◌∷◌, ◌++◌, length, take, drop, zero, suc, Bool, true}
+use Rattle.std.proofs.Common.{false, not, nat_lt, ◌&&◌, ◌||◌, ◌==◌, sym, refl, ap, subst, ◌∙◌, arith}
 use Rattle.std.proofs.lemmas.Bool.Decides.{nat_tests}
-use Rattle.std.proofs.lemmas.Str.{encode_ascii, chars_past_char, encodes-append, encodes-chars, chars-nil, chars-encodes, chars-append, scalars-chars}
+use Rattle.std.proofs.lemmas.Str.{encode_ascii, chars_past_char, encodes-append, encodes-chars, chars-nil}
+use Rattle.std.proofs.lemmas.Str.{chars-encodes, chars-append, scalars-chars}
 use Rattle.std.specs.Prelude.{codes, encode_utf8, encode_utf8_all}
 use Rattle.std.specs.Str.{IsUtf8, chars, all_scalars}
 use Rattle.std.specs.List.{list_all}
@@ -14,7 +16,8 @@ use Rattle.elm_lexer.specs.Literals.{begins_literal}
 use Rattle.elm_lexer.specs.Numbers.{goes_on_number}
 use Rattle.elm_lexer.specs.Pieces.{IsPiece, name, number, wildcard, field, mark, operator, SpellsPiece, IsCut}
 use Rattle.elm_lexer.proofs.Basics.{and_true, both_true, not_true, true_false, eq_true, among_all, front_of}
-use Rattle.elm_lexer.proofs.Runs.{Front, spelled_some, spelled_more, run_front, run_longest, run-lower, all_lower, goes, name_front, name_longest, names, name_goes, letters, number_front, number_longest}
+use Rattle.elm_lexer.proofs.Runs.{Front, spelled_some, spelled_more, run_front, run_longest, run-lower, all_lower, goes}
+use Rattle.elm_lexer.proofs.Runs.{name_front, name_longest, names, name_goes, letters, number_front, number_longest}
 
 -- ---- pieces of different shapes begin with different characters
 

@@ -1,8 +1,10 @@
 -- A text has one list of tokens and one end of it.
-use Rattle.std.proofs.Common.{◌≡◌, ℕ, List, [], ◌∷◌, ◌++◌, take, drop, Bool, true, false, Option, Some, None, refl, sym, ap, ◌∙◌, arith}
+use Rattle.std.proofs.Common.{◌≡◌, ℕ, List, [], ◌∷◌, ◌++◌, take, drop, Bool, true, false, Option, Some, None, refl, sym}
+use Rattle.std.proofs.Common.{ap, ◌∙◌, arith}
 use Rattle.std.specs.Str.{IsUtf8}
 use Rattle.elm_base.specs.declared.fault.Code.TheVariants as fault_code
-use Rattle.elm_lexer.specs.Tokens.{Place, Token, Fault, Tokens, behind, token_at, fault_at, Reads, no_more, gap, open_comment, token, fault, first_place, HasFault, not_utf8, ends}
+use Rattle.elm_lexer.specs.Tokens.{Place, Token, Fault, Tokens, behind, token_at, fault_at, Reads, no_more, gap}
+use Rattle.elm_lexer.specs.Tokens.{open_comment, token, fault, first_place, HasFault, not_utf8, ends}
 use Rattle.elm_lexer.proofs.Starts.{token_cut}
 use Rattle.elm_lexer.proofs.Texts.{gap_text}
 use Rattle.elm_lexer.proofs.Steps.{gap_only, open_only, token_only, fault_only, end_only, Ends}

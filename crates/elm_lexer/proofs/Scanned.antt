@@ -1,5 +1,7 @@
 -- What the scan of escapes accepts is spelled in the language's words: characters, and the escapes that it has.
-use Rattle.std.proofs.Common.{◌≡◌, ℕ, zero, suc, ◌+◌, ◌*◌, ◌<◌, ◌≤◌, List, [], ◌∷◌, ◌++◌, length, get_or, Bool, true, false, nat_le, nat_lt, ◌&&◌, ◌||◌, ◌==◌, Some, None, sym, refl, ap, subst, ◌∙◌, arith, append-nil}
+use Rattle.std.proofs.Common.{◌≡◌, ℕ, zero, suc, ◌+◌, ◌*◌, ◌<◌, ◌≤◌, List, [], ◌∷◌, ◌++◌, length, get_or, Bool, true}
+use Rattle.std.proofs.Common.{false, nat_le, nat_lt, ◌&&◌, ◌||◌, ◌==◌, Some, None, sym, refl, ap, subst, ◌∙◌, arith}
+use Rattle.std.proofs.Common.{append-nil}
 use Rattle.std.specs.Prelude.{encode_utf8_all, codes, ⊤}
 use Rattle.std.specs.List.{list_all}
 use Rattle.std.specs.Char.{encode_utf8}
@@ -10,8 +12,10 @@ use Rattle.std.proofs.lemmas.Str.{encode_ascii, inside_one, length-encode, len_u
 use Rattle.elm_lexer.specs.declared.reading.Reading.TheVariants.{Plain, Escape, Code}
 use Rattle.elm_lexer.specs.Characters.{is_among, is_hex_digit}
 use Rattle.elm_lexer.specs.Kinds.{digit_value, number_from}
-use Rattle.elm_lexer.specs.Literals.{begins_escape, begins_code, ends_code, bad_escape, escaped_char, units_from, more_code}
-use Rattle.elm_lexer.specs.Values.{IsShort, line_feed, carriage_return, tab, quote, apostrophe, backslash, Spells, nothing, itself, short, code}
+use Rattle.elm_lexer.specs.Literals.{begins_escape, begins_code, ends_code, bad_escape, escaped_char, units_from}
+use Rattle.elm_lexer.specs.Literals.{more_code}
+use Rattle.elm_lexer.specs.Values.{IsShort, line_feed, carriage_return, tab, quote, apostrophe, backslash, Spells}
+use Rattle.elm_lexer.specs.Values.{nothing, itself, short, code}
 use Rattle.elm_lexer.proofs.Ends.{is_open}
 use Rattle.elm_lexer.proofs.Basics.{and_true, both_true, true_false, eq_true}
 

@@ -1,8 +1,10 @@
 -- One turn of the scans of literals.
-use Rattle.std.proofs.Common.{◌≡◌, ℕ, ◌+◌, ◌<◌, List, [], ◌∷◌, ◌++◌, length, get_or, drop, Bool, true, false, not, ◌&&◌, ◌==◌, Some, None, sym, refl, ap, ◌∙◌, arith, append_assoc, append-nil}
+use Rattle.std.proofs.Common.{◌≡◌, ℕ, ◌+◌, ◌<◌, List, [], ◌∷◌, ◌++◌, length, get_or, drop, Bool, true, false, not, ◌&&◌}
+use Rattle.std.proofs.Common.{◌==◌, Some, None, sym, refl, ap, ◌∙◌, arith, append_assoc, append-nil}
 use Rattle.elm_lexer.specs.declared.reading.Reading.{Reading}
 use Rattle.elm_lexer.specs.declared.reading.Reading.TheVariants.{Plain}
-use Rattle.elm_lexer.specs.Literals.{begins_lines, escapes, closes, line_length, lines_length, begins_escape, bad_escape, units_at, reading_after, units_from}
+use Rattle.elm_lexer.specs.Literals.{begins_lines, escapes, closes, line_length, lines_length, begins_escape}
+use Rattle.elm_lexer.specs.Literals.{bad_escape, units_at, reading_after, units_from}
 
 -- ---- a literal of one line
 

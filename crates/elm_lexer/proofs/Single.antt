@@ -1,5 +1,6 @@
 -- A character has one code.
-use Rattle.std.proofs.Common.{◌≡◌, ℕ, ◌<◌, ◌≤◌, List, [], ◌∷◌, ◌++◌, length, get_or, Bool, true, false, nat_lt, ◌==◌, refl, ap, subst, ◌∙◌, arith, append-nil}
+use Rattle.std.proofs.Common.{◌≡◌, ℕ, ◌<◌, ◌≤◌, List, [], ◌∷◌, ◌++◌, length, get_or, Bool, true, false, nat_lt, ◌==◌}
+use Rattle.std.proofs.Common.{refl, ap, subst, ◌∙◌, arith, append-nil}
 use Rattle.std.specs.Prelude.{encode_utf8_all}
 use Rattle.std.specs.List.{list_all}
 use Rattle.std.specs.Str.{IsUtf8}
@@ -11,7 +12,8 @@ use Rattle.std.proofs.lemmas.List.{length-append}
 use Rattle.std.proofs.lemmas.Str.{length-encode, len_utf8_bounds, IsCharBoundary-at_seam}
 use Rattle.elm_lexer.specs.Characters.{is_continuing, is_hex_digit}
 use Rattle.elm_lexer.specs.Literals.{is_quote, is_code_and_quote, is_rest_and_quote, is_character}
-use Rattle.elm_lexer.specs.Values.{IsShort, line_feed, carriage_return, tab, quote, apostrophe, backslash, Spells, nothing, itself, short, code, IsOne}
+use Rattle.elm_lexer.specs.Values.{IsShort, line_feed, carriage_return, tab, quote, apostrophe, backslash, Spells}
+use Rattle.elm_lexer.specs.Values.{nothing, itself, short, code, IsOne}
 use Rattle.elm_lexer.proofs.Basics.{and_true}
 use Rattle.elm_lexer.proofs.Scanned.{AreHigh, below, encode_high, all_ascii, high_other, hex_low, IsQuote, short_low}
 use Rattle.elm_lexer.proofs.Values.{quote_plain}

@@ -1,5 +1,6 @@
 -- Each text and character among the tokens spells its value: its escapes are the language's, and its units are what they stand for.
-use Rattle.std.proofs.Common.{◌≡◌, ℕ, List, [], ◌∷◌, ◌++◌, length, take, drop, Bool, true, false, ◌==◌, Option, Some, None, sym, refl, ap, subst, ◌∙◌, arith}
+use Rattle.std.proofs.Common.{◌≡◌, ℕ, List, [], ◌∷◌, ◌++◌, length, take, drop, Bool, true, false, ◌==◌, Option, Some}
+use Rattle.std.proofs.Common.{None, sym, refl, ap, subst, ◌∙◌, arith}
 use Rattle.std.specs.Prelude.{encode_utf8_all}
 use Rattle.std.specs.Str.{IsUtf8, chars}
 use Rattle.std.proofs.lemmas.Str.{encodes-chars, scalars-chars}
@@ -11,7 +12,8 @@ use Rattle.elm_lexer.specs.Values.{IsOne, SpellsUnits, AreSpelled}
 use Rattle.elm_lexer.specs.declared.token.Kind.{Kind}
 use Rattle.elm_lexer.specs.declared.token.Kind.TheVariants.{Text, Char}
 use Rattle.elm_lexer.specs.Literals.{literal_body, literal_units}
-use Rattle.elm_lexer.specs.Tokens.{Place, Token, Fault, Reads, no_more, gap, open_comment, token, fault, token_at, Tokens}
+use Rattle.elm_lexer.specs.Tokens.{Place, Token, Fault, Reads, no_more, gap, open_comment, token, fault, token_at}
+use Rattle.elm_lexer.specs.Tokens.{Tokens}
 use Rattle.elm_lexer.proofs.Starts.{TokenOf, of_piece, of_literal, token_is, token_cut}
 use Rattle.elm_lexer.proofs.Texts.{gap_text}
 use Rattle.elm_lexer.proofs.Values.{is_plain, IfPlain, piece_plain, Quoted, literal_quoted}

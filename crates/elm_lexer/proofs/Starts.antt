@@ -1,13 +1,15 @@
 -- What a text begins with is what the program finds, and what a token is.
 use Rattle.std.specs.Prelude.{if◌then◌else◌}
-use Rattle.std.proofs.Common.{◌≡◌, ℕ, zero, suc, ◌<◌, ◌≤◌, List, length, take, drop, Bool, true, false, ◌||◌, ◌==◌, Option, Some, None, sym, refl, ap, subst, ◌∙◌, arith, length-append}
+use Rattle.std.proofs.Common.{◌≡◌, ℕ, zero, suc, ◌<◌, ◌≤◌, List, length, take, drop, Bool, true, false, ◌||◌, ◌==◌}
+use Rattle.std.proofs.Common.{Option, Some, None, sym, refl, ap, subst, ◌∙◌, arith, length-append}
 use Rattle.std.specs.Str.{IsUtf8, chars}
 use Rattle.elm_base.specs.declared.fault.Code.{Code}
 use Rattle.elm_base.specs.declared.fault.Code.TheVariants.{BadEscape, Syntax, Tab}
 use Rattle.elm_lexer.specs.declared.token.Kind.{Kind}
 use Rattle.elm_lexer.specs.declared.first.First.{First}
 use Rattle.elm_lexer.specs.declared.first.First.TheVariants as first
-use Rattle.elm_lexer.specs.Firsts.{IsFirst, piece, stray, literal, piece_first, kind_first, escape_first, length_first, cut_first, first_in, IsWithin}
+use Rattle.elm_lexer.specs.Firsts.{IsFirst, piece, stray, literal, piece_first, kind_first, escape_first, length_first}
+use Rattle.elm_lexer.specs.Firsts.{cut_first, first_in, IsWithin}
 use Rattle.elm_lexer.specs.Kinds.{kind_of}
 use Rattle.elm_lexer.specs.Lengths.{piece_length}
 use Rattle.elm_lexer.specs.Literals.{begins_literal, literal_length, bad_escape, begins_text, is_tab, literal_kind}

@@ -1,5 +1,6 @@
 -- What one turn of the program says of the tokens and the fault.
-use Rattle.std.proofs.Common.{◌≡◌, ℕ, ◌<◌, List, [], ◌∷◌, ◌++◌, length, take, drop, Bool, true, false, Option, Some, None, sym, refl, ap, subst, ◌∙◌, arith}
+use Rattle.std.proofs.Common.{◌≡◌, ℕ, ◌<◌, List, [], ◌∷◌, ◌++◌, length, take, drop, Bool, true, false, Option, Some}
+use Rattle.std.proofs.Common.{None, sym, refl, ap, subst, ◌∙◌, arith}
 use Rattle.std.proofs.lemmas.List.{append_cancel_right}
 use Rattle.std.specs.Str.{IsUtf8}
 use Rattle.elm_base.specs.declared.fault.Code.{Code}
@@ -9,7 +10,8 @@ use Rattle.elm_lexer.specs.declared.first.First.{First}
 use Rattle.elm_lexer.specs.declared.first.First.TheVariants as first
 use Rattle.elm_lexer.specs.Firsts.{IsFirst}
 use Rattle.elm_lexer.specs.Gaps.{begins_gap, IsGap}
-use Rattle.elm_lexer.specs.Tokens.{Place, Token, Fault, behind, token_at, fault_at, Reads, no_more, gap, open_comment, token, fault}
+use Rattle.elm_lexer.specs.Tokens.{Place, Token, Fault, behind, token_at, fault_at, Reads, no_more, gap, open_comment}
+use Rattle.elm_lexer.specs.Tokens.{token, fault}
 use Rattle.elm_lexer.proofs.Basics.{true_false}
 use Rattle.elm_lexer.proofs.Blocks.{gap_same, gap_begins}
 use Rattle.elm_lexer.proofs.Starts.{first_same, token_cut}

@@ -1,5 +1,6 @@
 -- Each text has a list of tokens or a fault.
-use Rattle.std.proofs.Common.{◌≡◌, ℕ, zero, suc, ◌+◌, ◌-◌, ◌<◌, ◌≤◌, List, [], ◌∷◌, length, take, drop, Bool, true, false, Option, Some, None, ◌⊎◌, inl, inr, refl, ap, ◌∙◌, arith}
+use Rattle.std.proofs.Common.{◌≡◌, ℕ, zero, suc, ◌+◌, ◌-◌, ◌<◌, ◌≤◌, List, [], ◌∷◌, length, take, drop, Bool, true}
+use Rattle.std.proofs.Common.{false, Option, Some, None, ◌⊎◌, inl, inr, refl, ap, ◌∙◌, arith}
 use Rattle.std.proofs.lemmas.List.{length-append, length-drop}
 use Rattle.std.proofs.lemmas.Str.{IsUtf8-from_is_utf8, is_utf8-from_IsUtf8}
 use Rattle.std.specs.Str.{IsUtf8, is_utf8}
@@ -7,10 +8,14 @@ use Rattle.elm_base.specs.declared.fault.Code.TheVariants as fault_code
 use Rattle.elm_lexer.specs.declared.first.First.{First}
 use Rattle.elm_lexer.specs.declared.first.First.TheVariants as first
 use Rattle.elm_lexer.specs.Firsts.{IsFirst, first_in}
-use Rattle.elm_lexer.specs.Gaps.{begins_line, begins_block, ends_block, begins_gap, after_line, IsBlock, ended, IsGap, white, line, block}
-use Rattle.elm_lexer.specs.Tokens.{Place, Token, Fault, behind, token_at, fault_at, Reads, no_more, open_comment, token, fault, first_place, not_utf8, ends, no_text, HasTokens, IsFaulty}
+use Rattle.elm_lexer.specs.Gaps.{begins_line, begins_block, ends_block, begins_gap, after_line, IsBlock, ended, IsGap}
+use Rattle.elm_lexer.specs.Gaps.{white, line, block}
+use Rattle.elm_lexer.specs.Tokens.{Place, Token, Fault, behind, token_at, fault_at, Reads, no_more, open_comment, token}
+use Rattle.elm_lexer.specs.Tokens.{fault, first_place, not_utf8, ends, no_text, HasTokens, IsFaulty}
 use Rattle.elm_lexer.proofs.Basics.{true_false, rest_of}
-use Rattle.elm_lexer.proofs.Blocks.{begins_as, opens_whole, opens_only, closes_whole, closes_only, goes_whole, goes_only, none_inside, block_end, line_end, gap_end, block_gap, block_no_gap, white_gap}
+use Rattle.elm_lexer.proofs.Blocks.{begins_as, opens_whole, opens_only, closes_whole, closes_only, goes_whole}
+use Rattle.elm_lexer.proofs.Blocks.{goes_only, none_inside, block_end, line_end, gap_end, block_gap, block_no_gap}
+use Rattle.elm_lexer.proofs.Blocks.{white_gap}
 use Rattle.elm_lexer.proofs.Starts.{first_is, token_cut}
 use Rattle.elm_lexer.proofs.Texts.{gap_text}
 use Rattle.elm_lexer.proofs.Steps.{gap_whole}

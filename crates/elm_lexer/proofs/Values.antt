@@ -1,5 +1,7 @@
 -- Each text and character among the tokens is a literal.
-use Rattle.std.proofs.Common.{◌≡◌, ℕ, ◌+◌, ◌-◌, ◌<◌, ◌≤◌, List, [], ◌∷◌, ◌++◌, length, take, drop, Bool, true, false, ◌||◌, ◌==◌, Option, Some, None, nat_le, sym, refl, ap, subst, ◌∙◌, arith, append_assoc, length-append}
+use Rattle.std.proofs.Common.{◌≡◌, ℕ, ◌+◌, ◌-◌, ◌<◌, ◌≤◌, List, [], ◌∷◌, ◌++◌, length, take, drop, Bool, true, false}
+use Rattle.std.proofs.Common.{◌||◌, ◌==◌, Option, Some, None, nat_le, sym, refl, ap, subst, ◌∙◌, arith, append_assoc}
+use Rattle.std.proofs.Common.{length-append}
 use Rattle.std.specs.Prelude.{if◌then◌else◌, option_and_then, ⊤}
 use Rattle.std.specs.List.{list_any}
 use Rattle.std.specs.Str.{bytes_eq, IsUtf8}
@@ -8,12 +10,16 @@ use Rattle.std.proofs.lemmas.List.{take_at}
 use Rattle.std.proofs.lemmas.List.Elements.{All-nil, All-cons}
 use Rattle.std.proofs.lemmas.Str.{IsUtf8-take, IsCharBoundary-before_ascii}
 use Rattle.elm_lexer.specs.declared.token.Kind.{Kind}
-use Rattle.elm_lexer.specs.declared.token.Kind.TheVariants.{Int, Text, Char, LowerName, UpperName, QualifiedLower, QualifiedUpper, Backslash, Operator}
+use Rattle.elm_lexer.specs.declared.token.Kind.TheVariants.{Int, Text, Char, LowerName, UpperName, QualifiedLower}
+use Rattle.elm_lexer.specs.declared.token.Kind.TheVariants.{QualifiedUpper, Backslash, Operator}
 use Rattle.elm_lexer.specs.Characters.{is_letter, is_digit, is_mark, is_operator_char}
-use Rattle.elm_lexer.specs.Kinds.{kind_in, reserved_kinds, marks, operators, begins_upper, begins_field, field_of, field_kind, last_word, name_kind, number_value, int_of, wildcard_kind, kind_of}
-use Rattle.elm_lexer.specs.Literals.{begins_literal, begins_lines, literal_length, bad_escape, begins_text, literal_body, SpellsLiteral}
+use Rattle.elm_lexer.specs.Kinds.{kind_in, reserved_kinds, marks, operators, begins_upper, begins_field, field_of}
+use Rattle.elm_lexer.specs.Kinds.{field_kind, last_word, name_kind, number_value, int_of, wildcard_kind, kind_of}
+use Rattle.elm_lexer.specs.Literals.{begins_literal, begins_lines, literal_length, bad_escape, begins_text}
+use Rattle.elm_lexer.specs.Literals.{literal_body, SpellsLiteral}
 use Rattle.elm_lexer.specs.Names.{SpellsValue, AreValues}
-use Rattle.elm_lexer.specs.Tokens.{Place, Token, Fault, Reads, no_more, gap, open_comment, token, fault, token_at, Tokens}
+use Rattle.elm_lexer.specs.Tokens.{Place, Token, Fault, Reads, no_more, gap, open_comment, token, fault, token_at}
+use Rattle.elm_lexer.specs.Tokens.{Tokens}
 use Rattle.elm_lexer.proofs.Basics.{true_false, front_of}
 use Rattle.elm_lexer.proofs.Ends.{is_open, LineEnd, line_ended, lines_begin, Closed, lines_closed, quote_low}
 use Rattle.elm_lexer.proofs.Starts.{TokenOf, of_piece, of_literal, token_is, token_cut}

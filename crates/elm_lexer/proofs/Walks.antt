@@ -1,5 +1,6 @@
 -- One turn of the walks over the characters of a text.
-use Rattle.std.proofs.Common.{◌≡◌, ℕ, ◌+◌, List, [], ◌∷◌, ◌++◌, length, Bool, true, false, ◌&&◌, ◌||◌, ◌==◌, sym, refl, ap, ◌∙◌, arith, length-append, Some, None}
+use Rattle.std.proofs.Common.{◌≡◌, ℕ, ◌+◌, List, [], ◌∷◌, ◌++◌, length, Bool, true, false, ◌&&◌, ◌||◌, ◌==◌, sym, refl}
+use Rattle.std.proofs.Common.{ap, ◌∙◌, arith, length-append, Some, None}
 use Rattle.std.proofs.lemmas.Str.{chars_past_char}
 use Rattle.std.specs.Char.{encode_utf8}
 use Rattle.std.specs.Str.{IsUtf8, chars}

@@ -1,13 +1,20 @@
 -- What a piece is, if it is a token, and what is wrong with it otherwise.
-use Rattle.std.specs.Prelude.{ℕ, ◌+◌, ◌-◌, ◌*◌, Bool, false, ◌&&◌, ◌||◌, if◌then◌else◌, ◌==◌, nat_le, List, [], ◌∷◌, Option, Some, None, option_and_then, codes}
+use Rattle.std.specs.Prelude.{ℕ, ◌+◌, ◌-◌, ◌*◌, Bool, false, ◌&&◌, ◌||◌, if◌then◌else◌, ◌==◌, nat_le, List, [], ◌∷◌}
+use Rattle.std.specs.Prelude.{Option, Some, None, option_and_then, codes}
 use Rattle.std.specs.List.{list_all, list_any}
 use Rattle.std.specs.Str.{bytes_eq}
 use Rattle.elm_lexer.specs.declared.token.Kind.{Kind}
-use Rattle.elm_lexer.specs.declared.token.Kind.TheVariants.{If, Then, Else, Case, Of, Let, In, «Type», Module, Where, Import, Exposing, As, Port, LowerName, UpperName, QualifiedLower, QualifiedUpper, Int, Underscore, OpenParen, CloseParen, OpenBrace, CloseBrace, OpenBracket, CloseBracket, Comma, Backslash, Equals, Arrow, Colon, Bar, Dot, Dots, Field, Operator}
+use Rattle.elm_lexer.specs.declared.token.Kind.TheVariants.{If, Then, Else, Case, Of, Let, In, «Type», Module, Where}
+use Rattle.elm_lexer.specs.declared.token.Kind.TheVariants.{Import, Exposing, As, Port, LowerName, UpperName}
+use Rattle.elm_lexer.specs.declared.token.Kind.TheVariants.{QualifiedLower, QualifiedUpper, Int, Underscore, OpenParen}
+use Rattle.elm_lexer.specs.declared.token.Kind.TheVariants.{CloseParen, OpenBrace, CloseBrace, OpenBracket}
+use Rattle.elm_lexer.specs.declared.token.Kind.TheVariants.{CloseBracket, Comma, Backslash, Equals, Arrow, Colon, Bar}
+use Rattle.elm_lexer.specs.declared.token.Kind.TheVariants.{Dot, Dots, Field, Operator}
 use Rattle.elm_base.specs.Reserved.{reserved_words}
 use Rattle.elm_base.specs.declared.fault.Code.{Code}
 use Rattle.elm_base.specs.declared.fault.Code.TheVariants.{Syntax, FloatLiteral, IntTooLarge}
-use Rattle.elm_lexer.specs.Characters.{is_letter, is_upper, is_lower, is_digit, is_hex_digit, is_between, is_mark, is_operator_char}
+use Rattle.elm_lexer.specs.Characters.{is_letter, is_upper, is_lower, is_digit, is_hex_digit, is_between, is_mark}
+use Rattle.elm_lexer.specs.Characters.{is_operator_char}
 use Rattle.elm_lexer.specs.Numbers.{is_float}
 
 -- the kind that stands beside the piece in the table, or the other kind

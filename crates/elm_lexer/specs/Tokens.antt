@@ -1,7 +1,8 @@
 -- Tokens and faults: what a text is cut into. (Elm syntax reference: comments, literals, reserved words; the longest match.)
 -- A text is its bytes, which are UTF-8. Rows and columns count from 1, columns in code points.
 -- A text either has a list of tokens or a fault, which stands where its tokens end.
-use Rattle.std.specs.Prelude.{ℕ, ◌+◌, Bool, true, false, ◌&&◌, if◌then◌else◌, ◌==◌, nat_le, nat_lt, List, [], ◌∷◌, ◌++◌, take, drop, Option, Some, None, IsTrue, IsFalse}
+use Rattle.std.specs.Prelude.{ℕ, ◌+◌, Bool, true, false, ◌&&◌, if◌then◌else◌, ◌==◌, nat_le, nat_lt, List, [], ◌∷◌, ◌++◌}
+use Rattle.std.specs.Prelude.{take, drop, Option, Some, None, IsTrue, IsFalse}
 use Rattle.std.specs.Str.{IsUtf8}
 use Rattle.elm_lexer.specs.declared.token.Kind.{Kind}
 use Rattle.elm_base.specs.declared.fault.Code.{Code}

@@ -1,7 +1,8 @@
 //! What a character is to tokens.
 
 ghost use Rattle.std.specs.Prelude.{◌≡◌};
-ghost use Rattle.elm_lexer.specs.Characters.{is_white, is_upper, is_letter, is_digit, is_hex_digit, is_operator_char, is_mark, is_lower, is_sign, is_exponent_letter, is_continuing};
+ghost use Rattle.elm_lexer.specs.Characters.{is_white, is_upper, is_letter, is_digit, is_hex_digit, is_operator_char};
+ghost use Rattle.elm_lexer.specs.Characters.{is_mark, is_lower, is_sign, is_exponent_letter, is_continuing};
 
 /// A space, a line feed or a carriage return.
 pub(crate) fn is_white(c: u8) -> bool

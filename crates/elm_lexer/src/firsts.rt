@@ -4,7 +4,8 @@ ghost use Rattle.std.specs.Prelude.{◌≡◌, false, ◌<◌, ◌≤◌, ◌^�
 ghost use Rattle.std.specs.Str.{chars};
 ghost use Rattle.elm_lexer.specs.Kinds.{kind_of as the_kind};
 ghost use Rattle.elm_lexer.specs.Literals.{bad_escape as the_escape, literal_kind as the_literal_kind};
-ghost use Rattle.elm_lexer.specs.Firsts.{piece_first, stray_code, kind_first, good_first, bad_first, escape_first, literal_first, IsWithin, first_in};
+ghost use Rattle.elm_lexer.specs.Firsts.{piece_first, stray_code, kind_first, good_first, bad_first, escape_first};
+ghost use Rattle.elm_lexer.specs.Firsts.{literal_first, IsWithin, first_in};
 
 use crate::first::First;
 use crate::kind::{detail_length, fault_of, kind_of};

@@ -5,7 +5,9 @@ ghost use Rattle.std.specs.List.{list_all};
 ghost use Rattle.std.specs.Str.{bytes_eq};
 ghost use Rattle.elm_lexer.specs.Characters.{is_hex_digit};
 ghost use Rattle.elm_lexer.specs.Numbers.{is_float};
-ghost use Rattle.elm_lexer.specs.Kinds.{begins_upper, begins_field, kind_in, reserved_kinds, marks, operators, last_word, name_kind, is_decimal, is_hexadecimal, digit_value, number_from, number_value, int_of, field_kind, kind_of, is_integer, fault_of, detail_of};
+ghost use Rattle.elm_lexer.specs.Kinds.{begins_upper, begins_field, kind_in, reserved_kinds, marks, operators};
+ghost use Rattle.elm_lexer.specs.Kinds.{last_word, name_kind, is_decimal, is_hexadecimal, digit_value, number_from};
+ghost use Rattle.elm_lexer.specs.Kinds.{number_value, int_of, field_kind, kind_of, is_integer, fault_of, detail_of};
 ghost use Rattle.elm_lexer.specs.declared.token.Kind.TheVariants.{Backslash, Operator};
 
 use crate::characters::{

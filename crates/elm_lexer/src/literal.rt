@@ -2,7 +2,10 @@
 
 ghost use Rattle.std.specs.Prelude.{◌≡◌, ◌≤◌, ◌<◌, ◌+◌, ◌^◌, false, length, not, ◌&&◌, IsTrue, IfSome, codes};
 ghost use Rattle.elm_lexer.specs.Characters.{is_among};
-ghost use Rattle.elm_lexer.specs.Literals.{begins_literal, begins_lines, escapes, closes, line_length, lines_length, literal_length, ends_code, begins_code, begins_escape, bad_escape, is_quote, is_code_and_quote, is_escape_and_quote, is_rest_and_quote, is_character, begins_text, is_tab, literal_kind};
+ghost use Rattle.elm_lexer.specs.Literals.{begins_literal, begins_lines, escapes, closes, line_length, lines_length};
+ghost use Rattle.elm_lexer.specs.Literals.{literal_length, ends_code, begins_code, begins_escape, bad_escape, is_quote};
+ghost use Rattle.elm_lexer.specs.Literals.{is_code_and_quote, is_escape_and_quote, is_rest_and_quote, is_character};
+ghost use Rattle.elm_lexer.specs.Literals.{begins_text, is_tab, literal_kind};
 
 use crate::characters::{is_continuing, is_hex_digit};
 use crate::kind::digit_value;

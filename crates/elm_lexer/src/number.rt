@@ -3,7 +3,8 @@
 ghost use Rattle.std.specs.Prelude.{◌≡◌};
 ghost use Rattle.std.specs.List.{list_all};
 ghost use Rattle.elm_lexer.specs.Characters.{is_digit};
-ghost use Rattle.elm_lexer.specs.Numbers.{after_digits, are_digits, begins_digit, is_end, is_exponent, is_float, is_fraction, is_signed};
+ghost use Rattle.elm_lexer.specs.Numbers.{after_digits, are_digits, begins_digit, is_end, is_exponent, is_float};
+ghost use Rattle.elm_lexer.specs.Numbers.{is_fraction, is_signed};
 
 use crate::characters::{is_digit, is_exponent_letter, is_sign};
 

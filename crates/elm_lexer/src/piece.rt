@@ -6,7 +6,8 @@ ghost use Rattle.elm_base.specs.Path.{is_name_char};
 ghost use Rattle.elm_lexer.specs.Characters.{is_digit, is_operator_char};
 ghost use Rattle.elm_lexer.specs.Kinds.{begins_upper, begins_lower};
 ghost use Rattle.elm_lexer.specs.Lengths.{run, begins_letter, name_run, next_part, number_run, piece_length};
-ghost use Rattle.elm_lexer.specs.Numbers.{begins_digit, after_digit, after_letter, after_name_char, after_joint, may_join, is_joint};
+ghost use Rattle.elm_lexer.specs.Numbers.{begins_digit, after_digit, after_letter, after_name_char, after_joint};
+ghost use Rattle.elm_lexer.specs.Numbers.{may_join, is_joint};
 ghost use Rattle.elm_lexer.specs.declared.part.Part.TheVariants.{Whole};
 
 use crate::characters::{

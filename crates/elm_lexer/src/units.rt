@@ -2,7 +2,8 @@
 
 ghost use Rattle.std.specs.Prelude.{◌≡◌, ◌≤◌, ◌+◌, ◌++◌, length, IfOk, OnOk};
 ghost use Rattle.std.specs.Str.{IsUtf8, chars};
-ghost use Rattle.elm_lexer.specs.Literals.{literal_body, code_units, more_code, escaped_char, units_at, reading_after, literal_units, SpellsLiteral};
+ghost use Rattle.elm_lexer.specs.Literals.{literal_body, code_units, more_code, escaped_char, units_at, reading_after};
+ghost use Rattle.elm_lexer.specs.Literals.{literal_units, SpellsLiteral};
 ghost use Rattle.std.specs.Char.Escape.{encode_utf16};
 
 use crate::characters::is_hex_digit;

@@ -8,7 +8,8 @@ use Rattle.elm_base.specs.declared.fault.Code.TheVariants.{FileTooLarge}
 use Rattle.elm_files.specs.declared.outside.Got.{Got}
 use Rattle.elm_files.specs.declared.outside.Got.TheVariants.{Bytes, TooLong}
 use Rattle.elm_files.specs.Tree.{IsReadOf}
-use Rattle.elm_make.specs.BuildsTo.{Outcome, Faulty, start_fault, start_line, too_long, text_within, IsFoldOf, IsBuiltFrom, one_source}
+use Rattle.elm_make.specs.BuildsTo.{Outcome, Faulty, start_fault, start_line, too_long, text_within, IsFoldOf}
+use Rattle.elm_make.specs.BuildsTo.{IsBuiltFrom, one_source}
 use Rattle.elm_make.specs.End.{IsOnly}
 use Rattle.elm_make.proofs.Folds.{bad_fold}
 

@@ -4,7 +4,8 @@ use Rattle.js_tree.specs.Text.{JsText}
 use Rattle.first_emit.specs.Emit.{Emit}
 use Rattle.first_canon.specs.Tree.{Project}
 use Rattle.elm_lexer.specs.Tokens.{Fault}
-use Rattle.elm_make.specs.BuildsTo.{Text, Faulty, line_of, ModuleResult, Refused, Compiled, Gives, Folded, no_module, one_module}
+use Rattle.elm_make.specs.BuildsTo.{Text, Faulty, line_of, ModuleResult, Refused, Compiled, Gives, Folded, no_module}
+use Rattle.elm_make.specs.BuildsTo.{one_module}
 use Rattle.elm_make.specs.BuildsTo.{IsFoldOf, IsJoined, linked}
 use Rattle.elm_make.specs.End.{IsOnly}
 use Rattle.elm_make.proofs.Given.{one_result}

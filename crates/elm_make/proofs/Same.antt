@@ -4,7 +4,8 @@ use Rattle.elm_base.specs.declared.fault.Code.TheVariants.{BadOutput, EntryNotFo
 use Rattle.elm_files.specs.Tree.{Tree}
 use Rattle.first_canon.specs.Tree.{Project}
 use Rattle.elm_make.specs.Paths.{normal_path, is_absolute, is_output, is_entry}
-use Rattle.elm_make.specs.BuildsTo.{Outcome, Text, start_line, text_within, ModuleResult, Gives, Folded, no_module, one_module}
+use Rattle.elm_make.specs.BuildsTo.{Outcome, Text, start_line, text_within, ModuleResult, Gives, Folded, no_module}
+use Rattle.elm_make.specs.BuildsTo.{one_module}
 use Rattle.elm_make.specs.BuildsTo.{IsJoined, linked, IsFoldOf, IsBuiltFrom, BuildsTo}
 use Rattle.elm_make.proofs.Folds.{folded_one}
 use Rattle.elm_make.proofs.Steps.{steps_same}

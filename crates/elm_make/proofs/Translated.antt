@@ -19,7 +19,8 @@ use Rattle.first_compile.specs.Made.{Good, Made}
 use Rattle.first_compile.proofs.Accepted.{for_good, accepted_subset, accepted_ruled, accepted_meaning}
 use Rattle.first_compile.proofs.Same.{same_made}
 use Rattle.elm_make.specs.Paths.{normal_path, is_absolute, is_output, is_entry}
-use Rattle.elm_make.specs.BuildsTo.{Faulty, Text, ModuleResult, Refused, Compiled, Gives, compiled, too_long, start_fault, start_line, text_within, fault_lines, IsJoined, linked}
+use Rattle.elm_make.specs.BuildsTo.{Faulty, Text, ModuleResult, Refused, Compiled, Gives, compiled, too_long}
+use Rattle.elm_make.specs.BuildsTo.{start_fault, start_line, text_within, fault_lines, IsJoined, linked}
 use Rattle.elm_make.specs.BuildsTo.{IsBuiltFrom, BuildsTo}
 use Rattle.elm_make.specs.Translated.{IsTextOfOne, AreInputs, Translates, IsTranslation}
 use Rattle.elm_make.proofs.Given.{one_result}

@@ -1,5 +1,6 @@
 -- The number of a code that a token decides determines the code.
-use Rattle.std.proofs.Common.{◌≡◌, ℕ, List, [], ◌∷◌, ◌++◌, Bool, true, false, ◌&&◌, if◌then◌else◌, nat_eq, nat_le, nat_lt, length, Option, Some, None, ◌⊎◌, inl, inr, refl, sym, ap, subst}
+use Rattle.std.proofs.Common.{◌≡◌, ℕ, List, [], ◌∷◌, ◌++◌, Bool, true, false, ◌&&◌, if◌then◌else◌, nat_eq, nat_le}
+use Rattle.std.proofs.Common.{nat_lt, length, Option, Some, None, ◌⊎◌, inl, inr, refl, sym, ap, subst}
 use Rattle.std.specs.Prelude.{Contains}
 use Rattle.std.proofs.lemmas.List.Elements.{Contains-append_cases}
 use Rattle.elm_base.specs.declared.fault.Code.{Code}
@@ -8,7 +9,10 @@ use Rattle.elm_lexer.specs.Tokens.{Token}
 use Rattle.parse_machine.specs.declared.table.Token as machine
 use Rattle.parse_machine.specs.Grammar.{Tree, leaf, word, node}
 use Rattle.elm_grammar.specs.Classes as class
-use Rattle.elm_faults.specs.Faults.{Decided, Level, fault_if, lone, is_one_of, openers, operators, greatest_depth, most_operators, most_commas, clashes, at_token, same_name, annotates, first_of, by_name, is_named, is_of, entries, ends, is_empty, after_annotation, at_production, faults_in, faults_of, outermost, read, below, passed}
+use Rattle.elm_faults.specs.Faults.{Decided, Level, fault_if, lone, is_one_of, openers, operators, greatest_depth}
+use Rattle.elm_faults.specs.Faults.{most_operators, most_commas, clashes, at_token, same_name, annotates, first_of}
+use Rattle.elm_faults.specs.Faults.{by_name, is_named, is_of, entries, ends, is_empty, after_annotation, at_production}
+use Rattle.elm_faults.specs.Faults.{faults_in, faults_of, outermost, read, below, passed}
 use Rattle.elm_faults.specs.Standing.{Finding, Stands, early, at_end, number_of}
 use Rattle.elm_faults.proofs.Prefix.{none_in, only_in}
 

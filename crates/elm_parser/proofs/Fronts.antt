@@ -1,5 +1,6 @@
 -- The longest front of tokens that begins a text: there is one, and all of the tokens are it where they are a text.
-use Rattle.std.proofs.Common.{◌≡◌, ℕ, List, [], ◌∷◌, ◌++◌, inl, inr, refl, sym, ◌∙◌, ap, subst, append_assoc, append-nil}
+use Rattle.std.proofs.Common.{◌≡◌, ℕ, List, [], ◌∷◌, ◌++◌, inl, inr, refl, sym, ◌∙◌, ap, subst, append_assoc}
+use Rattle.std.proofs.Common.{append-nil}
 use Rattle.std.proofs.lemmas.List.{append_cancel_left}
 use Rattle.parse_machine.specs.declared.table.Symbol.TheVariants.{Part}
 use Rattle.parse_machine.specs.declared.table.Step.{Step}

@@ -1,8 +1,12 @@
 -- Chains are grouped in one way. What waits to the left of an operator fits, so that joining it keeps each operator
 -- where it may stand; and a tree that is grouped is read back from its operands and operators.
-use Rattle.std.proofs.Common.{◌≡◌, List, [], ◌∷◌, ◌++◌, Bool, true, false, ◌&&◌, if◌then◌else◌, nat_lt, nat_eq, refl, sym, ap, ◌∙◌, append_assoc, append-nil}
+use Rattle.std.proofs.Common.{◌≡◌, List, [], ◌∷◌, ◌++◌, Bool, true, false, ◌&&◌, if◌then◌else◌, nat_lt, nat_eq, refl}
+use Rattle.std.proofs.Common.{sym, ap, ◌∙◌, append_assoc, append-nil}
 use Rattle.elm_tree.specs.Tree.{Word}
-use Rattle.elm_tree.specs.Regroup.{Tree, Leaf, Node, level_of, side_of, clash_of, may_stand_left, may_stand_right, first_of, others_of, left_fits, right_fits, is_grouped, Regroup, closed, opened, grouped_after, grouped, clashes_after, clashing_from, clashing, added_if, GroupsWell, GroupsOnce}
+use Rattle.elm_tree.specs.Regroup.{Tree, Leaf, Node, level_of, side_of, clash_of, may_stand_left, may_stand_right}
+use Rattle.elm_tree.specs.Regroup.{first_of, others_of, left_fits, right_fits, is_grouped, Regroup, closed, opened}
+use Rattle.elm_tree.specs.Regroup.{grouped_after, grouped, clashes_after, clashing_from, clashing, added_if, GroupsWell}
+use Rattle.elm_tree.specs.Regroup.{GroupsOnce}
 use Rattle.elm_tree.proofs.Levels.{right_left, left_right, right_stays, clash_right, passes, next_free}
 
 -- the operators that wait decide whether an operator clashes as all before it do

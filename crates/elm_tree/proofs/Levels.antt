@@ -1,6 +1,7 @@
 -- Which operator may stand below which, as facts on levels and sides. The cases are those of two tests on numbers and
 -- of the sides.
-use Rattle.std.proofs.Common.{◌≡◌, ℕ, ◌<◌, Bool, true, false, ◌&&◌, ◌||◌, if◌then◌else◌, nat_lt, nat_eq, refl, arith, ◌⊎◌, inl, inr}
+use Rattle.std.proofs.Common.{◌≡◌, ℕ, ◌<◌, Bool, true, false, ◌&&◌, ◌||◌, if◌then◌else◌, nat_lt, nat_eq, refl, arith}
+use Rattle.std.proofs.Common.{◌⊎◌, inl, inr}
 use Rattle.std.proofs.lemmas.Bool.Decides.{nat_tests}
 use Rattle.elm_tree.specs.declared.operator.Side.{Side}
 use Rattle.elm_tree.specs.declared.operator.Side.TheVariants.{ToLeft, ToRight, Neither}

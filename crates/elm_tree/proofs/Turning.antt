@@ -1,12 +1,16 @@
 -- The turns of a chain, by a stack of operators: what waits for its right part, the nearest first.
-use Rattle.std.proofs.Common.{◌≡◌, ℕ, suc, ◌+◌, ◌-◌, ◌<◌, ◌≤◌, List, [], ◌∷◌, ◌++◌, Bool, true, false, ◌&&◌, if◌then◌else◌, nat_lt, nat_eq, map, length, take, drop, get_or, refl, sym, ap, subst, ◌∙◌, append_assoc, append-nil, arith}
+use Rattle.std.proofs.Common.{◌≡◌, ℕ, suc, ◌+◌, ◌-◌, ◌<◌, ◌≤◌, List, [], ◌∷◌, ◌++◌, Bool, true, false, ◌&&◌}
+use Rattle.std.proofs.Common.{if◌then◌else◌, nat_lt, nat_eq, map, length, take, drop, get_or, refl, sym, ap, subst, ◌∙◌}
+use Rattle.std.proofs.Common.{append_assoc, append-nil, arith}
 use Rattle.std.proofs.Math.Seq.{take-suc, take-length, drop-cons, drop-length}
 use Rattle.std.proofs.lemmas.List.{reverse-append}
 use Rattle.std.proofs.lemmas.Bool.Decides.{nat_tests}
 use Rattle.elm_lexer.specs.Tokens.{Token}
 use Rattle.elm_tree.specs.declared.tree.Word as declared
 use Rattle.elm_tree.specs.Tree.{Word}
-use Rattle.elm_tree.specs.Regroup.{Tree, Leaf, Node, may_stand_left, closed, opened, grouped_after, grouped, Turn, Operand, Join, turns_of, numbered, turns, joined, kept, level_of, side_of, clash_of, clashes_after, clashing_from, clashing}
+use Rattle.elm_tree.specs.Regroup.{Tree, Leaf, Node, may_stand_left, closed, opened, grouped_after, grouped, Turn}
+use Rattle.elm_tree.specs.Regroup.{Operand, Join, turns_of, numbered, turns, joined, kept, level_of, side_of, clash_of}
+use Rattle.elm_tree.specs.Regroup.{clashes_after, clashing_from, clashing}
 use Rattle.elm_tree.specs.View.{word_view, words_view}
 use Rattle.elm_tree.specs.Turns.{nearest}
 use Rattle.elm_tree.proofs.Levels.{passes}

@@ -5,7 +5,11 @@ use Rattle.elm_lexer.specs.Tokens.{Token}
 use Rattle.elm_tree.specs.Tree as plain
 use Rattle.elm_tree.specs.Tree.{types_of, patterns_of, exprs_of, parts_of, branches_of, definitions_of}
 use Rattle.elm_tree.specs.Words.{negative_of, expr_of, pattern_of}
-use Rattle.elm_tree.specs.View.{token_view, word_view, place_view, long_view, words_view, fields_view, NamedType, record_type, type_step, field_type_step, type_view, field_type_view, pattern_step, pattern_view, patterns_view, BranchView, WordExpr, record_expr, expr_step, definition_step, branch_step, part_step, expr_view, definition_view, branch_view, part_view}
+use Rattle.elm_tree.specs.View.{token_view, word_view, place_view, long_view, words_view, fields_view, NamedType}
+use Rattle.elm_tree.specs.View.{record_type, type_step, field_type_step, type_view, field_type_view, pattern_step}
+use Rattle.elm_tree.specs.View.{pattern_view, patterns_view, BranchView, WordExpr, record_expr, expr_step}
+use Rattle.elm_tree.specs.View.{definition_step, branch_step, part_step, expr_view, definition_view, branch_view}
+use Rattle.elm_tree.specs.View.{part_view}
 use Rattle.elm_tree.specs.declared.tree.Word.{Word}
 use Rattle.elm_tree.specs.declared.tree.TypeTree.{TypeTree}
 use Rattle.elm_tree.specs.declared.tree.TypeTree.TheVariants as type_tree
@@ -23,7 +27,8 @@ use Rattle.elm_tree.specs.declared.tree.Branch.{Branch}
 use Rattle.elm_tree.specs.declared.tree.Definition.{Definition}
 use Rattle.elm_tree.specs.declared.tree.Definition.TheVariants as definition
 use Rattle.elm_tree.specs.declared.tree.Definition.TheOpen.{Expr-F, Definition-F}
-use Rattle.elm_tree.specs.declared.tree.Definition.TheFolds.{fold-roll-Expr, fold-roll-Definition, fold_out-Part, fold_out-Branch}
+use Rattle.elm_tree.specs.declared.tree.Definition.TheFolds.{fold-roll-Expr, fold-roll-Definition, fold_out-Part}
+use Rattle.elm_tree.specs.declared.tree.Definition.TheFolds.{fold_out-Branch}
 
 pub variable_type : (tokens : List Token) (x : Word) →
     type_view tokens (type_tree.Variable x)

@@ -2,7 +2,8 @@
 -- that binds tighter stands below; of one level, left ones have the others to their left and right ones to their
 -- right. A tree is determined by that (`Regroup`), and `grouped` is one that meets it wherever no two operators
 -- clash. What the operands are does not matter: a phase groups the meanings of the operands.
-use Rattle.std.specs.Prelude.{◌≡◌, ℕ, suc, List, [], ◌∷◌, ◌++◌, Bool, true, false, ◌&&◌, ◌||◌, nat_lt, nat_eq, if◌then◌else◌, codes, IsTrue}
+use Rattle.std.specs.Prelude.{◌≡◌, ℕ, suc, List, [], ◌∷◌, ◌++◌, Bool, true, false, ◌&&◌, ◌||◌, nat_lt, nat_eq}
+use Rattle.std.specs.Prelude.{if◌then◌else◌, codes, IsTrue}
 use Rattle.std.specs.Str.{bytes_eq}
 use Rattle.elm_tree.specs.Tree.{Word}
 use Rattle.elm_tree.specs.declared.operator.Side.{Side}

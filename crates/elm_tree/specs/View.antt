@@ -3,7 +3,8 @@ use Rattle.std.specs.Prelude.{List, map, Option, Some, None, option_map}
 use Rattle.elm_lexer.specs.Tokens.{Token}
 use Rattle.elm_tree.specs.Tree as plain
 use Rattle.elm_tree.specs.Tree.{types_of, field_types_of, patterns_of, exprs_of, parts_of, branches_of, definitions_of}
-use Rattle.elm_tree.specs.Words.{token_at, pos_of, word_of, field_of, long_of, negative_of, expr_of, pattern_of, exposed_of}
+use Rattle.elm_tree.specs.Words.{token_at, pos_of, word_of, field_of, long_of, negative_of, expr_of, pattern_of}
+use Rattle.elm_tree.specs.Words.{exposed_of}
 use Rattle.elm_tree.specs.declared.tree.Word.{Word}
 use Rattle.elm_tree.specs.declared.tree.TypeTree.{TypeTree, fold-TypeTree}
 use Rattle.elm_tree.specs.declared.tree.TypeTree.TheOpen.{TypeTree-F, FieldType-F}

@@ -5,7 +5,9 @@ use Rattle.elm_lexer.specs.declared.token.Kind.TheVariants as kind
 use Rattle.elm_lexer.specs.Tokens.{Token, first_place}
 use Rattle.elm_lexer.specs.Kinds.{last_word}
 use Rattle.elm_lexer.specs.Literals.{literal_units}
-use Rattle.elm_tree.specs.Tree.{Pos, Word, Long, Literal, IntL, CharL, TextL, Expr, Is, Name, Constructor, OperatorName, Accessor, Pattern, Anything, Named, Exactly, Exposed, OneValue, OneType, OpenType, OneOperator}
+use Rattle.elm_tree.specs.Tree.{Pos, Word, Long, Literal, IntL, CharL, TextL, Expr, Is, Name, Constructor, OperatorName}
+use Rattle.elm_tree.specs.Tree.{Accessor, Pattern, Anything, Named, Exactly, Exposed, OneValue, OneType, OpenType}
+use Rattle.elm_tree.specs.Tree.{OneOperator}
 
 -- past the end of the list stands an empty name
 abbrev pub no_token : Token

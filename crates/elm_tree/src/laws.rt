@@ -1,7 +1,8 @@
 //! What holds of chains of operators; and chains and single tokens, worked out.
 
 ghost use Rattle.elm_tree.specs.Regroup.{GroupsWell, GroupsOnce};
-ghost use Rattle.elm_tree.specs.Examples.{ToTheLeft, ToTheRight, ByLevels, Unknown, NoSides, OtherSides, LowerBetween, InTurns, Qualified, Unqualified, OfField, Number};
+ghost use Rattle.elm_tree.specs.Examples.{ToTheLeft, ToTheRight, ByLevels, Unknown, NoSides, OtherSides, LowerBetween};
+ghost use Rattle.elm_tree.specs.Examples.{InTurns, Qualified, Unqualified, OfField, Number};
 
 /// A chain in which no operators clash means one tree: that which `grouped` gives.
 pub fn regroup_law<T>()

@@ -1,7 +1,8 @@
 //! A chain of operators, worked off: each operator comes after what it joins. So no tree of the chain has to be made.
 
 ghost use Rattle.std.specs.Prelude.{◌≡◌, ◌++◌, [], map, IfOk, IfErr, OnOk};
-ghost use Rattle.elm_tree.specs.Regroup.{level_of, side_of, may_stand_left, clash_of, clashes_after, turns, joined, kept, Join};
+ghost use Rattle.elm_tree.specs.Regroup.{level_of, side_of, may_stand_left, clash_of, clashes_after, turns, joined};
+ghost use Rattle.elm_tree.specs.Regroup.{kept, Join};
 ghost use Rattle.elm_tree.specs.View.{word_view, words_view};
 ghost use Rattle.elm_tree.specs.Turns.{tokens_view, turn_view, nearest, clashes, IfClash, BeginsWith};
 ghost use Rattle.elm_tree.specs.declared.turns.Ungrouped.TheVariants.{Memory};
@@ -75,7 +76,8 @@ pub fn differ(before: Side, after: Side) -> bool
 
 /// Whether an operator is joined before the one that comes after it.
 fn joins_first(tokens: &[Token<'_>], before: Word, operator: Word) -> bool
-    ensures { result ≡ may_stand_left (word_view (tokens_view tokens.now) before) (word_view (tokens_view tokens.now) operator) }
+    ensures { result ≡ may_stand_left (word_view (tokens_view tokens.now) before)
+        (word_view (tokens_view tokens.now) operator) }
 {
     let left = strength_at(tokens, before);
     let right = strength_at(tokens, operator);
@@ -89,7 +91,8 @@ fn joins_first(tokens: &[Token<'_>], before: Word, operator: Word) -> bool
 
 /// Whether an operator clashes with one of those that wait for their right part.
 fn clashes_with(tokens: &[Token<'_>], waiting: &[Word], operator: Word) -> bool
-    ensures { result ≡ clashes_after (nearest (tokens_view tokens.now) waiting.now) (word_view (tokens_view tokens.now) operator) }
+    ensures { result ≡ clashes_after (nearest (tokens_view tokens.now) waiting.now)
+        (word_view (tokens_view tokens.now) operator) }
 {
     let after = strength_at(tokens, operator);
     let mut rest = waiting;
@@ -110,8 +113,12 @@ fn join_before(
     operator: Word,
     turns: &mut Vec<Turn>,
 ) -> Result<(), AllocError>
-    ensures waiting { OnOk result (nearest (tokens_view tokens.now) waiting.new.items ≡ kept (nearest (tokens_view tokens.now) waiting.old.items) (word_view (tokens_view tokens.now) operator)) }
-    ensures turns { OnOk result (map (turn_view (tokens_view tokens.now)) turns.new.items ≡ map (turn_view (tokens_view tokens.now)) turns.old.items ++ map Join (joined (nearest (tokens_view tokens.now) waiting.old.items) (word_view (tokens_view tokens.now) operator))) }
+    ensures waiting { OnOk result (nearest (tokens_view tokens.now) waiting.new.items
+        ≡ kept (nearest (tokens_view tokens.now) waiting.old.items) (word_view (tokens_view tokens.now) operator)) }
+    ensures turns { OnOk result (map (turn_view (tokens_view tokens.now)) turns.new.items
+        ≡ map (turn_view (tokens_view tokens.now)) turns.old.items
+        ++ map Join (joined (nearest (tokens_view tokens.now) waiting.old.items)
+        (word_view (tokens_view tokens.now) operator))) }
 {
     while let Some(last) = waiting.pop() {
         if !joins_first(tokens, last, operator) {
@@ -129,7 +136,9 @@ fn join_all(
     turns: &mut Vec<Turn>,
     tokens: &[Token<'_>],
 ) -> Result<(), AllocError>
-    ensures { OnOk result (map (turn_view (tokens_view tokens.now)) turns.new.items ≡ map (turn_view (tokens_view tokens.now)) turns.old.items ++ map Join (nearest (tokens_view tokens.now) waiting.items)) }
+    ensures { OnOk result (map (turn_view (tokens_view tokens.now)) turns.new.items
+        ≡ map (turn_view (tokens_view tokens.now)) turns.old.items
+        ++ map Join (nearest (tokens_view tokens.now) waiting.items)) }
 {
     while let Some(last) = waiting.pop() {
         turns.push(Turn::Join(last))?;
@@ -144,9 +153,11 @@ pub fn turns(
     tokens: &[Token<'_>],
     operators: &[Word],
 ) -> Result<Vec<Turn>, Ungrouped>
-    ensures turns { IfOk result (λ v. map (turn_view (tokens_view tokens.now)) v.items ≡ turns (words_view (tokens_view tokens.now) operators.now)) }
+    ensures turns { IfOk result (λ v. map (turn_view (tokens_view tokens.now)) v.items
+        ≡ turns (words_view (tokens_view tokens.now) operators.now)) }
     ensures grouped { OnOk result (clashes (tokens_view tokens.now) operators.now ≡ []) }
-    ensures clash { IfErr result (λ e. IfClash e (λ op. BeginsWith (clashes (tokens_view tokens.now) operators.now) op)) }
+    ensures clash { IfErr result (λ e. IfClash e (λ op. BeginsWith
+        (clashes (tokens_view tokens.now) operators.now) op)) }
 {
     let mut turns = Vec::new(alloc);
     let mut waiting = Vec::new(alloc);

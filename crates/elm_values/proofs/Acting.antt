@@ -7,7 +7,6 @@ use Rattle.elm_tree.specs.View.{token_view, word_view, words_view, constructor_v
 use Rattle.elm_tree.specs.declared.tree.Word.{Word}
 use Rattle.elm_tree.specs.declared.tree.Constructor.{Constructor}
 use Rattle.elm_grammar.specs.declared.action.Item.{Item}
-use Rattle.elm_grammar.specs.declared.action.Item.TheVariants as item
 use Rattle.elm_grammar.specs.declared.action.Action.{Action}
 use Rattle.elm_grammar.specs.declared.action.Action.TheVariants.{More, Same}
 use Rattle.elm_grammar.specs.Values.{Kind, One, Many, Thing, thing_of, takes, gives, act, first_word}

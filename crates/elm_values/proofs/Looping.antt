@@ -1,6 +1,7 @@
 -- The steps are done from the last to the first: what stands from place i on is `run` of those steps, and one step more
 -- is `after_step` (`run_back`).
-use Rattle.std.proofs.Common.{◌≡◌, ℕ, zero, suc, ◌-◌, ◌<◌, ◌≤◌, List, [], ◌∷◌, length, get_or, drop, refl, ap, ◌∙◌, arith}
+use Rattle.std.proofs.Common.{◌≡◌, ℕ, zero, suc, ◌-◌, ◌<◌, ◌≤◌, List, [], ◌∷◌, length, get_or, drop, refl, ap, ◌∙◌}
+use Rattle.std.proofs.Common.{arith}
 use Rattle.elm_lexer.specs.Tokens.{Token}
 use Rattle.parse_machine.specs.declared.table.Step.{Step}
 use Rattle.elm_values.specs.Stack.{empty, after_step, run}

@@ -1,12 +1,17 @@
 -- What is made of lists that are held from the last item to the first: where one is empty, has one item, or is longer.
-use Rattle.std.proofs.Common.{◌≡◌, ℕ, List, [], ◌∷◌, map, reverse, length, true, false, nat_eq, Option, None, Some, option_map, refl, sym, ap, ◌∙◌, arith}
+use Rattle.std.proofs.Common.{◌≡◌, ℕ, List, [], ◌∷◌, map, reverse, length, true, false, nat_eq, Option, None, Some}
+use Rattle.std.proofs.Common.{option_map, refl, sym, ap, ◌∙◌, arith}
 use Rattle.std.proofs.lemmas.Bool.Decides.{nat_tests}
 use Rattle.std.proofs.lemmas.List.{length-reverse}
 use Rattle.elm_lexer.specs.Tokens.{Token}
-use Rattle.elm_tree.specs.Tree.{Pos, Word, TypeTree, FunctionType, TupleType, Expr, Apply, Chain, Access, TupleOf, Pattern, As, ConsPattern, TuplePattern, Definition, types_of, patterns_of, exprs_of, parts_of}
+use Rattle.elm_tree.specs.Tree.{Pos, Word, TypeTree, FunctionType, TupleType, Expr, Apply, Chain, Access, TupleOf}
+use Rattle.elm_tree.specs.Tree.{As, ConsPattern, TuplePattern, Definition, types_of, patterns_of, exprs_of}
+use Rattle.elm_tree.specs.Tree.{parts_of}
 use Rattle.elm_tree.specs.Words.{field_of}
 use Rattle.elm_tree.specs.View as seen
-use Rattle.elm_tree.specs.View.{NamedType, BranchView, WordExpr, token_view, word_view, place_view, fields_view, type_step, field_type_step, type_view, field_type_view, pattern_view, patterns_view, expr_step, definition_step, branch_step, part_step, expr_view, branch_view, part_view}
+use Rattle.elm_tree.specs.View.{NamedType, BranchView, WordExpr, token_view, word_view, place_view, fields_view}
+use Rattle.elm_tree.specs.View.{type_step, field_type_step, type_view, field_type_view, pattern_view, patterns_view}
+use Rattle.elm_tree.specs.View.{expr_step, definition_step, branch_step, part_step, expr_view, branch_view, part_view}
 use Rattle.elm_tree.specs.declared.tree.Word as word
 use Rattle.elm_tree.specs.declared.tree.TypeTree as type_tree
 use Rattle.elm_tree.specs.declared.tree.FieldType as field_type
@@ -20,7 +25,8 @@ use Rattle.elm_tree.specs.declared.tree.TypeTree.TheFolds.{fold-roll-FieldType}
 use Rattle.elm_tree.specs.declared.tree.Definition.TheOpen.{Branch-F, Part-F}
 use Rattle.elm_tree.specs.declared.tree.Definition.TheViews.{roll-Branch, roll-Part}
 use Rattle.elm_tree.specs.declared.tree.Definition.TheFolds.{fold-roll-Branch, fold-roll-Part}
-use Rattle.elm_grammar.specs.Values.{applied, chained, arrows_of, accessed, conses_of, bracket_type, bracketed, bracket_pattern, with_name, fields_from, record_expr, Begun, begun, patterns_in}
+use Rattle.elm_grammar.specs.Values.{applied, chained, arrows_of, accessed, conses_of, bracket_type, bracketed}
+use Rattle.elm_grammar.specs.Values.{bracket_pattern, with_name, fields_from, record_expr, Begun, begun, patterns_in}
 use Rattle.elm_values.specs.declared.value.Begun as value
 use Rattle.elm_values.specs.Stack.{held, begun_view, first}
 

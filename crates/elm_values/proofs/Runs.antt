@@ -1,18 +1,19 @@
 -- What the steps of a derivation leave on the stacks: the value that the derivation means (`runs_as`). What an action
 -- takes is on top, since popping undoes pushing at every kind that has a stack (`top_push`, `pop_push`).
-use Rattle.std.proofs.Common.{◌≡◌, ℕ, zero, suc, Bool, true, false, ◌&&◌, List, [], ◌∷◌, ◌++◌, refl, sym, ap, ◌∙◌, append_assoc, append-nil}
+use Rattle.std.proofs.Common.{◌≡◌, ℕ, zero, suc, Bool, true, false, ◌&&◌, List, [], ◌∷◌, ◌++◌, refl, sym, ap, ◌∙◌}
+use Rattle.std.proofs.Common.{append_assoc, append-nil}
 use Rattle.std.specs.List.{list_all}
 use Rattle.elm_lexer.specs.Tokens.{Token}
 use Rattle.parse_machine.specs.declared.table.Step.{Step}
-use Rattle.parse_machine.specs.declared.table.Step.TheVariants.{Take, Read}
-use Rattle.parse_machine.specs.Grammar.{Tree, node, steps_of}
+use Rattle.parse_machine.specs.declared.table.Step.TheVariants.{Read}
+use Rattle.parse_machine.specs.Grammar.{Tree, steps_of}
 use Rattle.elm_grammar.specs.declared.action.Item.TheVariants as item
 use Rattle.elm_grammar.specs.declared.action.Action.{Action}
 use Rattle.elm_grammar.specs.declared.action.Action.TheVariants.{EmptyModule}
 use Rattle.elm_grammar.specs.Table.{elm_actions}
 use Rattle.elm_grammar.specs.Values.{Kind, One, Many, Thing, takes, gives}
 use Rattle.elm_grammar.specs.Meaning.{Things, none, ◌⸴◌, action_in, action_at, made, Means, nothing, a_word, a_node}
-use Rattle.elm_values.specs.Stack.{Columns, empty, push, pop, top, tops, below, apply, after_step, run}
+use Rattle.elm_values.specs.Stack.{Columns, push, pop, top, tops, below, apply, after_step, run}
 use Rattle.elm_values.specs.Used.{is_used}
 
 -- ---- kinds that have a stack

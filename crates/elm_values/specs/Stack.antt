@@ -3,12 +3,15 @@ use Rattle.std.specs.Prelude.{◌≡◌, ℕ, List, [], ◌∷◌, map, reverse,
 use Rattle.elm_lexer.specs.Tokens.{Token}
 use Rattle.elm_tree.specs.Tree as tree
 use Rattle.elm_tree.specs.Words.{token_at, pos_of, word_of, expr_of, pattern_of, exposed_of}
-use Rattle.elm_tree.specs.View.{token_view, word_view, place_view, words_view, type_view, field_type_view, pattern_view, patterns_view, expr_view, definition_view, branch_view, part_view, constructor_view, declaration_view, exposed_view, exposing_view, import_view, header_view, head_view}
+use Rattle.elm_tree.specs.View.{token_view, word_view, place_view, words_view, type_view, field_type_view, pattern_view}
+use Rattle.elm_tree.specs.View.{patterns_view, expr_view, definition_view, branch_view, part_view, constructor_view}
+use Rattle.elm_tree.specs.View.{declaration_view, exposed_view, exposing_view, import_view, header_view, head_view}
 use Rattle.elm_tree.specs.declared.tree.Module as program
 use Rattle.elm_grammar.specs.declared.action.Item.{Item}
 use Rattle.elm_grammar.specs.declared.action.Item.TheVariants as item
 use Rattle.elm_grammar.specs.declared.action.Action.{Action}
-use Rattle.elm_grammar.specs.Values.{Kind, One, Many, thing_of, Thing, Rest, Typed, Bodied, Begun, begun, AfterMinus, Closed, Operand, takes, gives, empty_module}
+use Rattle.elm_grammar.specs.Values.{Kind, One, Many, thing_of, Thing, Rest, Typed, Bodied, Begun, begun, AfterMinus}
+use Rattle.elm_grammar.specs.Values.{Closed, Operand, takes, gives, empty_module}
 use Rattle.elm_grammar.specs.Meaning.{Things, none, ◌⸴◌, action_at, made}
 use Rattle.parse_machine.specs.declared.table.Step.{Step}
 use Rattle.parse_machine.specs.declared.table.Step.TheVariants.{Take, Read}

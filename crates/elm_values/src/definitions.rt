@@ -3,7 +3,8 @@
 #![tactic(auto)]
 
 ghost use Rattle.std.specs.Prelude.{OnOk};
-ghost use Rattle.elm_grammar.specs.declared.action.Action.TheVariants.{ConstantRest, DefinitionOf, DestructureOf, FunctionRest};
+ghost use Rattle.elm_grammar.specs.declared.action.Action.TheVariants.{ConstantRest, DefinitionOf, DestructureOf};
+ghost use Rattle.elm_grammar.specs.declared.action.Action.TheVariants.{FunctionRest};
 ghost use Rattle.elm_values.specs.Stack.{Acts};
 
 use crate::make::{definition, patterns};

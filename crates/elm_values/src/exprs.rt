@@ -3,7 +3,13 @@
 #![tactic(auto)]
 
 ghost use Rattle.std.specs.Prelude.{OnOk};
-ghost use Rattle.elm_grammar.specs.declared.action.Action.TheVariants.{Applied, BracketAccess, BranchOf, CaseOf, ChainOf, EmptyRecord, IfOf, LambdaOf, LastOperand, LetOf, ListOf, MinusAlone, MinusOperand, MinusParen, MoreFields, MoreOperators, Negative, NegativeArgument, OperandThen, OperatorAlone, RecordAccess, RecordOf, UnsignedOf, WordAccess, WordExpr};
+ghost use Rattle.elm_grammar.specs.declared.action.Action.TheVariants.{Applied, BracketAccess, BranchOf, CaseOf};
+ghost use Rattle.elm_grammar.specs.declared.action.Action.TheVariants.{ChainOf, EmptyRecord, IfOf, LambdaOf};
+ghost use Rattle.elm_grammar.specs.declared.action.Action.TheVariants.{LastOperand, LetOf, ListOf, MinusAlone};
+ghost use Rattle.elm_grammar.specs.declared.action.Action.TheVariants.{MinusOperand, MinusParen, MoreFields};
+ghost use Rattle.elm_grammar.specs.declared.action.Action.TheVariants.{MoreOperators, Negative, NegativeArgument};
+ghost use Rattle.elm_grammar.specs.declared.action.Action.TheVariants.{OperandThen, OperatorAlone, RecordAccess};
+ghost use Rattle.elm_grammar.specs.declared.action.Action.TheVariants.{RecordOf, UnsignedOf, WordAccess, WordExpr};
 ghost use Rattle.elm_values.specs.Stack.{Acts};
 
 use crate::lists::{one_item, put, turned};

@@ -3,7 +3,8 @@
 #![tactic(auto, using(std::proofs::lemmas::Grind::common_steps), unfolding(elm_grammar::specs::Values::takes, elm_grammar::specs::Values::gives, elm_grammar::specs::Values::act))]
 
 ghost use Rattle.std.specs.Prelude.{OnOk, IsTrue};
-ghost use Rattle.elm_grammar.specs.declared.action.Action.TheVariants.{Comma, Empty, End, More, Same, Second, SecondAsList};
+ghost use Rattle.elm_grammar.specs.declared.action.Action.TheVariants.{Comma, Empty, End, More, Same, Second};
+ghost use Rattle.elm_grammar.specs.declared.action.Action.TheVariants.{SecondAsList};
 ghost use Rattle.elm_grammar.specs.declared.action.Item.TheVariants as item;
 ghost use Rattle.elm_values.specs.Stack.{Acts};
 ghost use Rattle.elm_values.specs.Used.{grows, has_list, moves};

@@ -6,8 +6,11 @@ ghost use Rattle.std.specs.Prelude.{◌≡◌, ◌∷◌, List, IfOk, map, rever
 ghost use Rattle.elm_lexer.specs.Tokens.{Token};
 ghost use Rattle.elm_tree.specs.Tree as tree;
 ghost use Rattle.elm_tree.specs.Tree.{branches_of, definitions_of};
-ghost use Rattle.elm_tree.specs.View.{branch_view, definition_view, expr_view, field_type_view, part_view, pattern_view, patterns_view, place_view, token_view, type_view, word_view};
-ghost use Rattle.elm_grammar.specs.Values.{accessed, after_minus, applied, arrows_of, bracket_pattern, bracket_type, bracketed, chained, conses_of, defined, fields_from, patterns_in, record_expr, record_type, with_name};
+ghost use Rattle.elm_tree.specs.View.{branch_view, definition_view, expr_view, field_type_view, part_view};
+ghost use Rattle.elm_tree.specs.View.{pattern_view, patterns_view, place_view, token_view, type_view, word_view};
+ghost use Rattle.elm_grammar.specs.Values.{accessed, after_minus, applied, arrows_of, bracket_pattern, bracket_type};
+ghost use Rattle.elm_grammar.specs.Values.{bracketed, chained, conses_of, defined, fields_from, patterns_in};
+ghost use Rattle.elm_grammar.specs.Values.{record_expr, record_type, with_name};
 ghost use Rattle.elm_values.specs.Stack.{after_view, begun_view, fields_view, held, rest_view};
 
 use crate::lists::{first, one_item, put, single, turned};
@@ -86,6 +89,13 @@ pub fn definition(name: Word, rest: Rest) -> Definition
 
 // ---- expressions
 
+/// The value in a box.
+fn boxed<T: Drop>(alloc: Global, value: T) -> Result<Box<T>, AllocError>
+    ensures { IfOk result (λ made. made.value ≡ value) }
+{
+    Ok(Box::new(alloc, value)?)
+}
+
 /// An operator and its right operand, or a field and its value.
 pub fn part(word: Word, value: Expr) -> Part
     ensures { (tokens : List Token) → part_view tokens result ≡ (word_view tokens word, expr_view tokens value) }
@@ -108,7 +118,7 @@ pub fn application(alloc: Global, function: Expr, arguments: Vec<Expr>) -> Resul
     if arguments.is_empty() {
         return Ok(function);
     }
-    let function = Box::new(alloc, function)?;
+    let function = boxed(alloc, function)?;
     Ok(Expr::Apply(function, turned(arguments)))
 }
 
@@ -120,7 +130,7 @@ pub fn chain(alloc: Global, operand: Expr, others: Vec<Part>) -> Result<Expr, Al
     if others.is_empty() {
         return Ok(operand);
     }
-    let operand = Box::new(alloc, operand)?;
+    let operand = boxed(alloc, operand)?;
     Ok(Expr::Chain(operand, turned(others)))
 }
 
@@ -129,7 +139,7 @@ pub fn negation(alloc: Global, place: Word, operand: Expr) -> Result<Expr, Alloc
     ensures { IfOk result (λ e. (tokens : List Token) →
         expr_view tokens e ≡ tree.Negate (place_view tokens place) (expr_view tokens operand)) }
 {
-    let operand = Box::new(alloc, operand)?;
+    let operand = boxed(alloc, operand)?;
     Ok(Expr::Negative(place, operand))
 }
 
@@ -138,9 +148,9 @@ pub fn conditional(alloc: Global, condition: Expr, yes: Expr, no: Expr) -> Resul
     ensures { IfOk result (λ e. (tokens : List Token) →
         expr_view tokens e ≡ tree.If (expr_view tokens condition) (expr_view tokens yes) (expr_view tokens no)) }
 {
-    let condition = Box::new(alloc, condition)?;
-    let yes = Box::new(alloc, yes)?;
-    let no = Box::new(alloc, no)?;
+    let condition = boxed(alloc, condition)?;
+    let yes = boxed(alloc, yes)?;
+    let no = boxed(alloc, no)?;
     Ok(Expr::If(condition, yes, no))
 }
 
@@ -151,7 +161,7 @@ pub fn case(alloc: Global, place: Word, e: Expr, branches: Vec<Branch>) -> Resul
         ≡ tree.Case (place_view tokens place) (expr_view tokens e)
         (branches_of (held (branch_view tokens) branches.items))) }
 {
-    let e = Box::new(alloc, e)?;
+    let e = boxed(alloc, e)?;
     Ok(Expr::Case(place, e, turned(branches)))
 }
 
@@ -161,7 +171,7 @@ pub fn let_in(alloc: Global, definitions: Vec<Definition>, body: Expr) -> Result
         expr_view tokens made
         ≡ tree.Let (definitions_of (held (definition_view tokens) definitions.items)) (expr_view tokens body)) }
 {
-    let body = Box::new(alloc, body)?;
+    let body = boxed(alloc, body)?;
     Ok(Expr::Let(turned(definitions), body))
 }
 
@@ -178,7 +188,7 @@ pub fn lambda(
         (expr_view tokens body)) }
 {
     let parameters = patterns(alloc, parameters)?;
-    let body = Box::new(alloc, body)?;
+    let body = boxed(alloc, body)?;
     Ok(Expr::Lambda(place, parameters, body))
 }
 
@@ -202,7 +212,7 @@ pub fn access(alloc: Global, place: Word, e: Expr, fields: Vec<Word>) -> Result<
     if fields.is_empty() {
         return Ok(e);
     }
-    let e = Box::new(alloc, e)?;
+    let e = boxed(alloc, e)?;
     Ok(Expr::Access(place, e, turned(fields)))
 }
 
@@ -321,7 +331,7 @@ pub fn named(alloc: Global, begun: Begun, name: Vec<Word>) -> Result<Begun, Allo
     match first(name) {
         None => Ok(begun),
         Some(name) => {
-            let inner = Box::new(alloc, begun.pattern)?;
+            let inner = boxed(alloc, begun.pattern)?;
             let pattern = Pattern::As(place, inner, name);
             Ok(Begun { place, pattern })
         }

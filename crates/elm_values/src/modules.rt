@@ -3,7 +3,12 @@
 #![tactic(auto)]
 
 ghost use Rattle.std.specs.Prelude.{OnOk};
-ghost use Rattle.elm_grammar.specs.declared.action.Action.TheVariants.{AliasOf, ConstructorOf, EmptyModule, ExposeAll, ExposeNothing, ExposeOperator, ExposeThese, ExposeUpper, ExposeWord, FirstPort, HeaderOf, ImportOf, Opening, PortHeader, PortModule, PortOf, UnionOf, ValueOf, WithDeclaration, WithHeader, WithImport};
+ghost use Rattle.elm_grammar.specs.declared.action.Action.TheVariants.{AliasOf, ConstructorOf, EmptyModule, ExposeAll};
+ghost use Rattle.elm_grammar.specs.declared.action.Action.TheVariants.{ExposeNothing, ExposeOperator, ExposeThese};
+ghost use Rattle.elm_grammar.specs.declared.action.Action.TheVariants.{ExposeUpper, ExposeWord, FirstPort, HeaderOf};
+ghost use Rattle.elm_grammar.specs.declared.action.Action.TheVariants.{ImportOf, Opening, PortHeader, PortModule};
+ghost use Rattle.elm_grammar.specs.declared.action.Action.TheVariants.{PortOf, UnionOf, ValueOf, WithDeclaration};
+ghost use Rattle.elm_grammar.specs.declared.action.Action.TheVariants.{WithHeader, WithImport};
 ghost use Rattle.elm_values.specs.Stack.{Acts};
 
 use crate::lists::{first, one_item, put, turned};

@@ -4,7 +4,8 @@
 
 ghost use Rattle.std.specs.Prelude.{◌≡◌, List};
 ghost use Rattle.elm_lexer.specs.Tokens.{Token};
-ghost use Rattle.elm_tree.specs.View.{constructor_view, branch_view, declaration_view, definition_view, exposed_view, expr_view, header_view, import_view, type_view};
+ghost use Rattle.elm_tree.specs.View.{constructor_view, branch_view, declaration_view, definition_view, exposed_view};
+ghost use Rattle.elm_tree.specs.View.{expr_view, header_view, import_view, type_view};
 ghost use Rattle.elm_grammar.specs.declared.action.Item.TheVariants as item;
 ghost use Rattle.elm_values.specs.Stack.{begun_view, built_module, chain_view, default_of, fields_view, rest_view};
 

@@ -3,7 +3,9 @@
 #![tactic(auto)]
 
 ghost use Rattle.std.specs.Prelude.{OnOk};
-ghost use Rattle.elm_grammar.specs.declared.action.Action.TheVariants.{BracketPattern, ConstructAlone, ConstructOf, FieldsPatternOf, ListPatternOf, NegativePattern, PatternOf, WordPattern};
+ghost use Rattle.elm_grammar.specs.declared.action.Action.TheVariants.{BracketPattern, ConstructAlone, ConstructOf};
+ghost use Rattle.elm_grammar.specs.declared.action.Action.TheVariants.{FieldsPatternOf, ListPatternOf, NegativePattern};
+ghost use Rattle.elm_grammar.specs.declared.action.Action.TheVariants.{PatternOf, WordPattern};
 ghost use Rattle.elm_values.specs.Stack.{Acts};
 
 use crate::lists::turned;

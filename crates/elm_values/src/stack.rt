@@ -4,10 +4,13 @@
 
 ghost use Rattle.std.specs.Prelude.{◌≡◌, ◌∷◌, reverse, List, OnOk};
 ghost use Rattle.elm_lexer.specs.Tokens.{Token};
-ghost use Rattle.elm_tree.specs.View.{branch_view, constructor_view, declaration_view, definition_view, exposed_view, exposing_view, expr_view, field_type_view, header_view, import_view, part_view, token_view, type_view};
+ghost use Rattle.elm_tree.specs.View.{branch_view, constructor_view, declaration_view, definition_view, exposed_view};
+ghost use Rattle.elm_tree.specs.View.{exposing_view, expr_view, field_type_view, header_view, import_view, part_view};
+ghost use Rattle.elm_tree.specs.View.{token_view, type_view};
 ghost use Rattle.elm_grammar.specs.declared.action.Item.TheVariants as item;
 ghost use Rattle.elm_grammar.specs.Values.{One, Many};
-ghost use Rattle.elm_values.specs.Stack.{after_view, begun_view, built_module, chain_view, columns, fields_view, head_or, held, pop, push, rest_view, tail, top};
+ghost use Rattle.elm_values.specs.Stack.{after_view, begun_view, built_module, chain_view, columns, fields_view};
+ghost use Rattle.elm_values.specs.Stack.{head_or, held, pop, push, rest_view, tail, top};
 
 use crate::lists::{put, take_or};
 use crate::nothing::{

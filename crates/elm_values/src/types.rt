@@ -3,7 +3,9 @@
 #![tactic(auto)]
 
 ghost use Rattle.std.specs.Prelude.{OnOk};
-ghost use Rattle.elm_grammar.specs.declared.action.Action.TheVariants.{AnnotationRest, ArrowsOf, BracketType, EmptyRecordType, MoreFieldTypes, NamedType, NamedTypeAlone, RecordTypeOf, VariableType};
+ghost use Rattle.elm_grammar.specs.declared.action.Action.TheVariants.{AnnotationRest, ArrowsOf, BracketType};
+ghost use Rattle.elm_grammar.specs.declared.action.Action.TheVariants.{EmptyRecordType, MoreFieldTypes, NamedType};
+ghost use Rattle.elm_grammar.specs.declared.action.Action.TheVariants.{NamedTypeAlone, RecordTypeOf, VariableType};
 ghost use Rattle.elm_values.specs.Stack.{Acts};
 
 use crate::lists::{put, turned};

@@ -2,7 +2,7 @@
 
 ghost use Rattle.std.specs.Prelude.{◌≡◌, [], ◌∷◌, IfOk, OnOk, codes, pos};
 ghost use Rattle.js_tree.specs.Tree.{JArrow, JInt, JHelper, NoJs, Return};
-ghost use Rattle.js_tree.specs.Postorder.{Expression, Member, MembersOf, NoMember, StatementsOf, NoStatement, below, build, expression, helper_view, members, name_view, top};
+ghost use Rattle.js_tree.specs.Postorder.{Expression, Member, MembersOf, NoMember, StatementsOf, NoStatement, below, trees_of, expression, helper_view, members, name_view, top};
 
 use elm_base::units::Units;
 use js_tree::tree::{Helper, Name, Node};
@@ -11,15 +11,15 @@ use std::alloc::{AllocError, Global};
 
 /// Begins the block of a function.
 pub fn begin_block(trees: &mut Trees) -> Result<(), AllocError>
-    ensures { OnOk result (build trees.new ≡ StatementsOf NoStatement ∷ build trees.old) }
+    ensures { OnOk result (trees_of trees.new ≡ StatementsOf NoStatement ∷ trees_of trees.old) }
 {
     trees.push(Node::NoStatement)
 }
 
 /// Ends the function of `parameter`, which returns the last tree, the value, and no statement stands before that.
 pub fn end_arrow(trees: &mut Trees, parameter: Name) -> Result<(), AllocError>
-    requires { top (below (build trees.old)) ≡ StatementsOf NoStatement }
-    ensures { OnOk result (build trees.new ≡ Expression (JArrow (name_view parameter) (Return (expression (top (build trees.old))))) ∷ below (below (build trees.old))) }
+    requires { top (below (trees_of trees.old)) ≡ StatementsOf NoStatement }
+    ensures { OnOk result (trees_of trees.new ≡ Expression (JArrow (name_view parameter) (Return (expression (top (trees_of trees.old))))) ∷ below (below (trees_of trees.old))) }
 {
     trees.push(Node::Return)?;
     trees.push(Node::Ended)?;
@@ -28,7 +28,7 @@ pub fn end_arrow(trees: &mut Trees, parameter: Name) -> Result<(), AllocError>
 
 /// What the function of the fixed text gives that takes nothing.
 pub fn helper(trees: &mut Trees, helper: Helper) -> Result<(), AllocError>
-    ensures { OnOk result (build trees.new ≡ Expression (JHelper (helper_view helper) NoJs) ∷ build trees.old) }
+    ensures { OnOk result (trees_of trees.new ≡ Expression (JHelper (helper_view helper) NoJs) ∷ trees_of trees.old) }
 {
     trees.push(Node::NoItem)?;
     trees.push(Node::Helper(helper))
@@ -47,14 +47,14 @@ pub fn ascii(alloc: Global, text: &[u8]) -> Result<Units, AllocError>
 
 /// The last tree as the field of that name.
 pub fn field(alloc: Global, trees: &mut Trees, name: &[u8]) -> Result<(), AllocError>
-    ensures { OnOk result (build trees.new ≡ MembersOf (Member (members (top (below (build trees.old)))) name.now (expression (top (build trees.old)))) ∷ below (below (build trees.old))) }
+    ensures { OnOk result (trees_of trees.new ≡ MembersOf (Member (members (top (below (trees_of trees.old)))) name.now (expression (top (trees_of trees.old)))) ∷ below (below (trees_of trees.old))) }
 {
     trees.push(Node::Field(ascii(alloc, name)?))
 }
 
 /// The fields of an object of which there is the tag alone.
 pub fn begin_tagged(alloc: Global, trees: &mut Trees, number: u32) -> Result<(), AllocError>
-    ensures { OnOk result (build trees.new ≡ MembersOf (Member NoMember (codes "$") (JInt (pos number))) ∷ build trees.old) }
+    ensures { OnOk result (trees_of trees.new ≡ MembersOf (Member NoMember (codes "$") (JInt (pos number))) ∷ trees_of trees.old) }
 {
     trees.push(Node::NoField)?;
     trees.push(Node::Int(i64::from(number)))?;

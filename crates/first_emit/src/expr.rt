@@ -4,7 +4,7 @@ ghost use Rattle.std.specs.Prelude.{◌≡◌, ◌+◌, ◌∷◌, IfOk, OnOk, m
 ghost use Rattle.first_canon.specs.View.{expr_view, field_view, exprs_of, fields_of, ref_view, pattern_view, operator_view};
 ghost use Rattle.js_tree.specs.Tree.{JObject};
 ghost use Rattle.js_tree.specs.Postorder as output;
-ghost use Rattle.js_tree.specs.Postorder.{Expression, Member, MembersOf, below, build, expression, members, top};
+ghost use Rattle.js_tree.specs.Postorder.{Expression, Member, MembersOf, below, trees_of, expression, members, top};
 ghost use Rattle.first_emit.specs.Emit.{emit, emit_calls, emit_fields, made_in, made_in_all, made_in_fields, js_name, js_operator, js_parameter, behind_parameter, now};
 ghost use Rattle.first_emit.specs.Literals.{HasExactLiterals, AllHaveExactLiterals, FieldsHaveExactLiterals};
 
@@ -60,7 +60,7 @@ pub fn emit_expr(
     made: &mut u64,
 ) -> Result<(), AllocError>
     requires exact { HasExactLiterals (expr_view expr.now) }
-    ensures emitted { OnOk result (build trees.new ≡ Expression (now (emit made.old (expr_view expr.now))) ∷ build trees.old) }
+    ensures emitted { OnOk result (trees_of trees.new ≡ Expression (now (emit made.old (expr_view expr.now))) ∷ trees_of trees.old) }
     ensures counted { OnOk result (made.new ≡ made.old + made_in (expr_view expr.now)) }
 {
     match expr {
@@ -113,8 +113,8 @@ fn emit_calls(
     made: &mut u64,
 ) -> Result<(), AllocError>
     requires exact { AllHaveExactLiterals (exprs_of (map expr_view arguments.now.items)) }
-    requires called { build trees.old ≡ Expression (expression (top (build trees.old))) ∷ below (build trees.old) }
-    ensures emitted { OnOk result (build trees.new ≡ Expression (emit_calls (expression (top (build trees.old))) made.old (exprs_of (map expr_view arguments.now.items))) ∷ below (build trees.old)) }
+    requires called { trees_of trees.old ≡ Expression (expression (top (trees_of trees.old))) ∷ below (trees_of trees.old) }
+    ensures emitted { OnOk result (trees_of trees.new ≡ Expression (emit_calls (expression (top (trees_of trees.old))) made.old (exprs_of (map expr_view arguments.now.items))) ∷ below (trees_of trees.old)) }
     ensures counted { OnOk result (made.new ≡ made.old + made_in_all (exprs_of (map expr_view arguments.now.items))) }
 {
     for argument in arguments {
@@ -133,7 +133,7 @@ fn emit_record(
     made: &mut u64,
 ) -> Result<(), AllocError>
     requires exact { FieldsHaveExactLiterals (fields_of (map field_view fields.now.items)) }
-    ensures emitted { OnOk result (build trees.new ≡ Expression (JObject (emit_fields made.old (fields_of (map field_view fields.now.items)))) ∷ build trees.old) }
+    ensures emitted { OnOk result (trees_of trees.new ≡ Expression (JObject (emit_fields made.old (fields_of (map field_view fields.now.items)))) ∷ trees_of trees.old) }
     ensures counted { OnOk result (made.new ≡ made.old + made_in_fields (fields_of (map field_view fields.now.items))) }
 {
     trees.push(Node::NoField)?;
@@ -152,7 +152,7 @@ fn emit_field(
     made: &mut u64,
 ) -> Result<(), AllocError>
     requires exact { HasExactLiterals (field_view field.now).1 }
-    ensures emitted { OnOk result (build trees.new ≡ MembersOf (Member (members (top (build trees.old))) (field_view field.now).0 (now (emit made.old (field_view field.now).1))) ∷ below (build trees.old)) }
+    ensures emitted { OnOk result (trees_of trees.new ≡ MembersOf (Member (members (top (trees_of trees.old))) (field_view field.now).0 (now (emit made.old (field_view field.now).1))) ∷ below (trees_of trees.old)) }
     ensures counted { OnOk result (made.new ≡ made.old + made_in (field_view field.now).1) }
 {
     emit_expr(alloc, trees, &field.value, made)?;

@@ -1,5 +1,5 @@
-//! Tests of the crates that a build begins with, one module for each: words of the process, files, texts, tokens, the
-//! order of definitions, and types that are found out.
+//! Tests of the crates that a build begins with, one module for each: words of the process, files, texts, tokens, and
+//! the order of definitions.
 #![tactic(auto)]
 
 #[cfg(test)]
@@ -10,9 +10,5 @@ mod command_words;
 mod definition_order;
 #[cfg(test)]
 mod files;
-#[cfg(test)]
-mod solver;
-#[cfg(test)]
-mod store;
 #[cfg(test)]
 mod tokens;

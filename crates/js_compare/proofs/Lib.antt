@@ -1,10 +1,20 @@
-pub mod Views
-pub mod Tags
-pub mod Digits
-pub mod Parts
-pub mod Nodes
-pub mod Numbers
-pub mod Tasks
-pub mod Comparing
-pub mod Orders
+-- fields that are put in the order of their names
 pub mod Sorting
+-- what an order comes to, part by part
+pub mod Orders
+-- what a comparison comes to, part by part
+pub mod Comparing
+-- tasks that are added and taken
+pub mod Tasks
+-- tests of signed numbers
+pub mod Numbers
+-- a walk over a dictionary, node by node
+pub mod Nodes
+-- the parts of an object with a tag, one by one
+pub mod Parts
+-- whether units are the digits of a number, from the last digit on
+pub mod Digits
+-- an object is never seen as a number
+pub mod Tags
+-- what values are, by how they are made, as the functions that compare see them
+pub mod Views

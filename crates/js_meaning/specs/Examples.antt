@@ -4,7 +4,8 @@ use Rattle.wire_value.specs.Wire as wire
 use Rattle.wire_value.specs.Wire.{no_wire, more_wires, no_member, more_members}
 use Rattle.runs.specs.Ends.{Val, Crashed, Unsafe, Stuck}
 use Rattle.js_tree.specs.Tree as js
-use Rattle.js_meaning.specs.Values.{JVal, JNumV, JTextV, JObjV, JNullV, JArrayV, JCodecV, JVals, NoJVal, MoreJVal, NoJField, MoreJField}
+use Rattle.js_meaning.specs.Values.{JVal, JNumV, JTextV, JObjV, JNullV, JArrayV, JCodecV, JVals, NoJVal, MoreJVal}
+use Rattle.js_meaning.specs.Values.{NoJField, MoreJField}
 use Rattle.js_meaning.specs.Lists.{tagged, list_value, pair_value}
 use Rattle.js_meaning.specs.Codecs.{Refusal, Decoding, decode, encode, nothing_value, just_value}
 use Rattle.js_meaning.specs.Helpers.{j_help}

@@ -8,7 +8,8 @@ use Rattle.js_tree.specs.declared.tree.Helper.{Helper}
 use Rattle.js_tree.specs.declared.tree.Node.{Node}
 use Rattle.js_tree.specs.declared.tree.Node as node
 use Rattle.js_tree.specs.Tree.{JInt, Continue}
-use Rattle.js_tree.specs.Postorder.{Tree, NoItem, NoMember, NoStatement, NoLineYet, top, apply, expression, items, members, statements, block, lines}
+use Rattle.js_tree.specs.Postorder.{Tree, NoItem, NoMember, NoStatement, NoLineYet, top, apply, expression, items}
+use Rattle.js_tree.specs.Postorder.{members, statements, block, lines}
 use Rattle.js_printer.specs.Tasks.{key_text, program_of, main_of, outs_of}
 
 pub no_item : (n : Node) (ts : List Tree) → (n ≡ node.Node.Item → ⊥) → items (top (apply n ts)) ≡ NoItem

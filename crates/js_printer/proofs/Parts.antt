@@ -1,5 +1,6 @@
 -- How the task of each node comes apart.
-use Rattle.std.proofs.Common.{◌≡◌, ℕ, ◌-◌, ◌<◌, ◌≤◌, Bor, List, [], ◌∷◌, ◌++◌, length, codes, refl, sym, ap, ◌∙◌, subst, ◌⊎◌, inl, inr, append_assoc, append-nil, arith}
+use Rattle.std.proofs.Common.{◌≡◌, ℕ, ◌-◌, ◌<◌, ◌≤◌, Bor, List, [], ◌∷◌, ◌++◌, length, codes, refl, sym, ap, ◌∙◌, subst}
+use Rattle.std.proofs.Common.{◌⊎◌, inl, inr, append_assoc, append-nil, arith}
 use Rattle.std.specs.declared.vec.Vec.{Vec}
 use Rattle.std.specs.declared.alloc.Global.{Global}
 use Rattle.js_tree.specs.declared.runtime.TheConstants.{HEAD, TAIL}
@@ -9,13 +10,19 @@ use Rattle.js_tree.specs.declared.tree.Helper.{Helper}
 use Rattle.js_tree.specs.declared.tree.Node as node
 use Rattle.js_tree.specs.declared.tree.Node.{Node}
 use Rattle.js_tree.specs.Tree as plain
-use Rattle.js_tree.specs.Tree.{Js, NoJs, MoreJs, JsList, Fields, NoField, MoreField, Stmts, Lines, NoLine, MoreLine, Program}
-use Rattle.js_tree.specs.Text.{js_text, name_text, text_text, operator_text, helper_text, list_text, more_text, fields_text, more_fields_text, stmts_text, lines_text, main_text, outs_fields}
-use Rattle.js_tree.specs.Postorder.{Items, NoItem, Item, Members, NoMember, Member, Before, NoStatement, ConstThen, LetThen, AssignThen, LinesBefore, NoLineYet, LineThen, Tree, items_then, members_then, statements_then, lines_then, apply, below, top, expression, items, members, statements, block, lines, name_view, operator_view, helper_view, trees_at}
+use Rattle.js_tree.specs.Tree.{Js, NoJs, MoreJs, JsList, Fields, NoField, MoreField, Stmts, Lines, NoLine, MoreLine}
+use Rattle.js_tree.specs.Tree.{Program}
+use Rattle.js_tree.specs.Text.{js_text, name_text, text_text, operator_text, helper_text, list_text, more_text}
+use Rattle.js_tree.specs.Text.{fields_text, more_fields_text, stmts_text, lines_text, main_text, outs_fields}
+use Rattle.js_tree.specs.Postorder.{Items, NoItem, Item, Members, NoMember, Member, Before, NoStatement, ConstThen}
+use Rattle.js_tree.specs.Postorder.{LetThen, AssignThen, LinesBefore, NoLineYet, LineThen, Tree, items_then}
+use Rattle.js_tree.specs.Postorder.{members_then, statements_then, lines_then, apply, below, top, expression, items}
+use Rattle.js_tree.specs.Postorder.{members, statements, block, lines, name_view, operator_view, helper_view, trees_at}
 use Rattle.js_printer.specs.declared.task.Task as task
 use Rattle.js_printer.specs.declared.task.Task.{Task}
 use Rattle.js_printer.specs.Whole.{before_text}
-use Rattle.js_printer.specs.Tasks.{items_text, members_text, member_text, key_text, statement_text, line_text, program_of, main_of, outs_of}
+use Rattle.js_printer.specs.Tasks.{items_text, members_text, member_text, key_text, statement_text, line_text}
+use Rattle.js_printer.specs.Tasks.{program_of, main_of, outs_of}
 use Rattle.js_printer.proofs.Splits.{IsSplit, weight-positive, weight-le, weight-before}
 
 -- the node before a place inside of the trees

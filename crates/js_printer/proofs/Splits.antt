@@ -1,11 +1,14 @@
 -- What a step leaves, from how a task comes apart.
-use Rattle.std.proofs.Common.{◌≡◌, ℕ, zero, suc, ◌+◌, ◌-◌, ◌*◌, ◌<◌, ◌≤◌, List, [], ◌∷◌, ◌++◌, length, reverse, OnOk, Result, Ok, Err, refl, sym, ap, ◌∙◌, subst, append_assoc, append-nil, arith, if◌then◌else◌}
+use Rattle.std.proofs.Common.{◌≡◌, ℕ, zero, suc, ◌+◌, ◌-◌, ◌*◌, ◌<◌, ◌≤◌, List, [], ◌∷◌, ◌++◌, length, reverse, OnOk}
+use Rattle.std.proofs.Common.{Result, Ok, Err, refl, sym, ap, ◌∙◌, subst, append_assoc, append-nil, arith}
+use Rattle.std.proofs.Common.{if◌then◌else◌}
 use Rattle.std.specs.Result.{is_ok}
 use Rattle.std.proofs.lemmas.List.{reverse-append}
 use Rattle.js_tree.specs.declared.tree.Node.{Node}
 use Rattle.js_printer.specs.declared.task.Task as task
 use Rattle.js_printer.specs.declared.task.Task.{Task}
-use Rattle.js_printer.specs.Tasks.{task_text, parts_text, left_text, weight_at, task_weight, tasks_weight, AreInside, IsStep}
+use Rattle.js_printer.specs.Tasks.{task_text, parts_text, left_text, weight_at, task_weight, tasks_weight, AreInside}
+use Rattle.js_printer.specs.Tasks.{IsStep}
 
 pub left_text-append : (ns : List Node) (ts us : List Task) → left_text ns (ts ++ us) ≡ left_text ns us ++ left_text ns ts
 left_text-append ns [] us = sym (append-nil (left_text ns us))

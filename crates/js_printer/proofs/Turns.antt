@@ -2,7 +2,7 @@
 use Rattle.std.proofs.Common.{◌≡◌, ℕ, ◌<◌, List, [], ◌∷◌, ◌++◌, length, sym, ap, ◌∙◌, subst, append-nil, arith}
 use Rattle.std.proofs.lemmas.List.{take_all}
 use Rattle.js_tree.specs.declared.tree.Node.{Node}
-use Rattle.js_tree.specs.Postorder.{top, build, trees_at}
+use Rattle.js_tree.specs.Postorder.{top, trees_of, trees_at}
 use Rattle.js_printer.specs.declared.task.Task.{Task}
 use Rattle.js_printer.specs.Whole.{tree_text}
 use Rattle.js_printer.specs.Tasks.{task_text, left_text, tasks_weight, IsInside, AreInside, IsStep}
@@ -22,9 +22,9 @@ inside_end n [] us h = h
 inside_end n (t ∷ ts) us h = inside_end n ts us h.1
 
 -- the first task of one tree
-pub comes_first : (ns : List Node) (t : Task) (place : ℕ) → place ≡ length ns → task_text ns t ≡ tree_text (top (trees_at ns place)) → IsInside (length ns) t → Comes ns (tree_text (top (build ns))) [] (t ∷ [])
+pub comes_first : (ns : List Node) (t : Task) (place : ℕ) → place ≡ length ns → task_text ns t ≡ tree_text (top (trees_at ns place)) → IsInside (length ns) t → Comes ns (tree_text (top (trees_of ns))) [] (t ∷ [])
 comes_first ns t place h e i = record {
-  text_is = e ∙ ap (λ ts. tree_text (top ts)) (ap build (take_all place ns (omega arith)));
+  text_is = e ∙ ap (λ ts. tree_text (top ts)) (ap trees_of (take_all place ns (omega arith)));
   inside = (i, tt);
 }
 

@@ -2,8 +2,12 @@
 use Rattle.std.specs.Prelude.{◌≡◌, ℕ, zero, suc, ◌+◌, ◌*◌, ◌<◌, ◌≤◌, List, [], ◌∷◌, ◌++◌, length, codes}
 use Rattle.js_tree.specs.declared.tree.Node.{Node}
 use Rattle.js_tree.specs.Tree.{Js, JProperty, NoJs, NoField, NoLine}
-use Rattle.js_tree.specs.Text.{js_text, name_text, text_text, list_text, fields_text, stmts_text, lines_text, main_text, outs_fields}
-use Rattle.js_tree.specs.Postorder.{Items, NoItem, Item, Members, NoMember, Member, Before, NoStatement, ConstThen, LetThen, AssignThen, LinesBefore, NoLineYet, LineThen, Tree, ProgramOf, items_then, members_then, lines_then, top, expression, items, members, statements, block, lines, trees_at}
+use Rattle.js_tree.specs.Text.{js_text, name_text, text_text, list_text, fields_text, stmts_text, lines_text, main_text}
+use Rattle.js_tree.specs.Text.{outs_fields}
+use Rattle.js_tree.specs.Postorder.{Items, NoItem, Item, Members, NoMember, Member, Before, NoStatement, ConstThen}
+use Rattle.js_tree.specs.Postorder.{LetThen, AssignThen, LinesBefore, NoLineYet, LineThen, Tree, ProgramOf, items_then}
+use Rattle.js_tree.specs.Postorder.{members_then, lines_then, top, expression, items, members, statements, block, lines}
+use Rattle.js_tree.specs.Postorder.{trees_at}
 use Rattle.js_printer.specs.declared.task.Task as task
 use Rattle.js_printer.specs.declared.task.Task.{Task}
 use Rattle.js_printer.specs.Whole.{before_text, program_text}

@@ -3,7 +3,9 @@ use Rattle.std.specs.Prelude.{ℕ, List, [], ◌++◌, codes}
 use Rattle.js_tree.specs.declared.runtime.TheConstants.{HEAD, TAIL}
 use Rattle.js_tree.specs.Tree.{NoJs, NoField, NoLine, Program}
 use Rattle.js_tree.specs.Text.{js_text, name_text, list_text, fields_text, stmts_text, lines_text, main_text}
-use Rattle.js_tree.specs.Postorder.{Before, NoStatement, ConstThen, LetThen, AssignThen, Tree, Expression, ItemsOf, MembersOf, StatementsOf, BlockOf, LinesOf, ProgramOf, items_then, members_then, lines_then}
+use Rattle.js_tree.specs.Postorder.{Before, NoStatement, ConstThen, LetThen, AssignThen, Tree, Expression, ItemsOf}
+use Rattle.js_tree.specs.Postorder.{MembersOf, StatementsOf, BlockOf, LinesOf, ProgramOf, items_then, members_then}
+use Rattle.js_tree.specs.Postorder.{lines_then}
 
 -- statements that others follow
 abbrev pub before_text : Before → List ℕ

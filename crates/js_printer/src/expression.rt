@@ -90,7 +90,8 @@ pub fn write_expression(
     place: usize,
 ) -> Result<(), AllocError>
     requires { place ≤ length trees.now }
-    ensures { OnOk result (IsStep trees.now (Task.Expression place) text.old.items tasks.old.items text.new.items tasks.new.items) }
+    ensures { OnOk result (IsStep trees.now
+        (Task.Expression place) text.old.items tasks.old.items text.new.items tasks.new.items) }
 {
     let Some(node) = trees.node(place) else {
         return text.extend_from_slice(b"0");
@@ -169,7 +170,8 @@ pub fn write_expression(
 /// Writes the brackets after an object, with the name of its field.
 pub fn write_key(text: &mut Vec<u8>, trees: &Trees, place: usize) -> Result<(), AllocError>
     requires { place ≤ length trees.now }
-    ensures { (tasks : List Task) → OnOk result (IsStep trees.now (Task.Key place) text.old.items tasks text.new.items tasks) }
+    ensures { (tasks : List Task) → OnOk result (IsStep trees.now
+        (Task.Key place) text.old.items tasks text.new.items tasks) }
 {
     let Some(node) = trees.node(place) else {
         return Ok(());
@@ -185,7 +187,8 @@ pub fn write_key(text: &mut Vec<u8>, trees: &Trees, place: usize) -> Result<(), 
 /// Leaves the items of a list, with commas between them.
 pub fn leave_items(tasks: &mut Vec<Task>, trees: &Trees, place: usize) -> Result<(), AllocError>
     requires { place ≤ length trees.now }
-    ensures { (text : List ℕ) → OnOk result (IsStep trees.now (Task.Items place) text tasks.old.items text tasks.new.items) }
+    ensures { (text : List ℕ) → OnOk result (IsStep trees.now
+        (Task.Items place) text tasks.old.items text tasks.new.items) }
 {
     let Some(node) = trees.node(place) else {
         return Ok(());
@@ -207,7 +210,8 @@ pub fn leave_items_before(
     place: usize,
 ) -> Result<(), AllocError>
     requires { place ≤ length trees.now }
-    ensures { (text : List ℕ) → OnOk result (IsStep trees.now (Task.ItemsBefore place) text tasks.old.items text tasks.new.items) }
+    ensures { (text : List ℕ) → OnOk result (IsStep trees.now
+        (Task.ItemsBefore place) text tasks.old.items text tasks.new.items) }
 {
     let Some(node) = trees.node(place) else {
         return Ok(());

@@ -4,7 +4,7 @@
 ghost use Rattle.std.specs.Prelude.{◌≡◌, ◌≤◌, length, OnOk, IfOk};
 ghost use Rattle.js_tree.specs.Tree.{Program};
 ghost use Rattle.js_tree.specs.Text.{JsText};
-ghost use Rattle.js_tree.specs.Postorder.{ProgramOf, build, top, trees_at};
+ghost use Rattle.js_tree.specs.Postorder.{ProgramOf, trees_of, top, trees_at};
 ghost use Rattle.js_printer.specs.Whole.{tree_text};
 ghost use Rattle.js_printer.specs.Tasks.{IsInside, IsStep, task_text};
 
@@ -30,8 +30,9 @@ const NODE_ROOM: usize = 16;
 
 /// The text of the last one of the trees.
 pub fn print(alloc: Global, trees: &Trees) -> Result<Vec<u8>, AllocError>
-    ensures text { IfOk result (λ bytes. bytes.items ≡ tree_text (top (build trees.now))) }
-    ensures program { IfOk result (λ bytes. (p : Program) → top (build trees.now) ≡ ProgramOf p → JsText p bytes.items) }
+    ensures text { IfOk result (λ bytes. bytes.items ≡ tree_text (top (trees_of trees.now))) }
+    ensures program { IfOk result (λ bytes. (p : Program) → top (trees_of trees.now) ≡ ProgramOf p
+        → JsText p bytes.items) }
 {
     let task = task_of(trees, trees.len());
     let mut text = Vec::with_capacity(alloc, room(task, trees.len()))?;

@@ -12,7 +12,8 @@ use std::alloc::AllocError;
 /// Leaves the fields of an object, with commas between them.
 pub fn leave_members(tasks: &mut Vec<Task>, trees: &Trees, place: usize) -> Result<(), AllocError>
     requires { place ≤ length trees.now }
-    ensures { (text : List ℕ) → OnOk result (IsStep trees.now (Task.Members place) text tasks.old.items text tasks.new.items) }
+    ensures { (text : List ℕ) → OnOk result (IsStep trees.now
+        (Task.Members place) text tasks.old.items text tasks.new.items) }
 {
     let Some(node) = trees.node(place) else {
         return Ok(());
@@ -31,7 +32,8 @@ pub fn leave_members_before(
     place: usize,
 ) -> Result<(), AllocError>
     requires { place ≤ length trees.now }
-    ensures { (text : List ℕ) → OnOk result (IsStep trees.now (Task.MembersBefore place) text tasks.old.items text tasks.new.items) }
+    ensures { (text : List ℕ) → OnOk result (IsStep trees.now
+        (Task.MembersBefore place) text tasks.old.items text tasks.new.items) }
 {
     let Some(node) = trees.node(place) else {
         return Ok(());
@@ -58,7 +60,8 @@ pub fn write_member(
     place: usize,
 ) -> Result<(), AllocError>
     requires { place ≤ length trees.now }
-    ensures { OnOk result (IsStep trees.now (Task.Member place) text.old.items tasks.old.items text.new.items tasks.new.items) }
+    ensures { OnOk result (IsStep trees.now
+        (Task.Member place) text.old.items tasks.old.items text.new.items tasks.new.items) }
 {
     let Some(node) = trees.node(place) else {
         return Ok(());

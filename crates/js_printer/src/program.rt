@@ -17,7 +17,8 @@ use std::alloc::AllocError;
 /// Leaves the lines of constants.
 pub fn leave_lines(tasks: &mut Vec<Task>, trees: &Trees, place: usize) -> Result<(), AllocError>
     requires { place ≤ length trees.now }
-    ensures { (text : List ℕ) → OnOk result (IsStep trees.now (Task.Lines place) text tasks.old.items text tasks.new.items) }
+    ensures { (text : List ℕ) → OnOk result (IsStep trees.now
+        (Task.Lines place) text tasks.old.items text tasks.new.items) }
 {
     let Some(node) = trees.node(place) else {
         return Ok(());
@@ -37,7 +38,8 @@ pub fn write_line(
     place: usize,
 ) -> Result<(), AllocError>
     requires { place ≤ length trees.now }
-    ensures { OnOk result (IsStep trees.now (Task.Line place) text.old.items tasks.old.items text.new.items tasks.new.items) }
+    ensures { OnOk result (IsStep trees.now
+        (Task.Line place) text.old.items tasks.old.items text.new.items tasks.new.items) }
 {
     let Some(node) = trees.node(place) else {
         return Ok(());
@@ -57,7 +59,8 @@ pub fn write_program(
     place: usize,
 ) -> Result<(), AllocError>
     requires { place ≤ length trees.now }
-    ensures { OnOk result (IsStep trees.now (Task.Program place) text.old.items tasks.old.items text.new.items tasks.new.items) }
+    ensures { OnOk result (IsStep trees.now
+        (Task.Program place) text.old.items tasks.old.items text.new.items tasks.new.items) }
 {
     let Some(node) = trees.node(place) else {
         return Ok(());
@@ -83,7 +86,8 @@ pub fn write_main(
     place: usize,
 ) -> Result<(), AllocError>
     requires { place ≤ length trees.now }
-    ensures { OnOk result (IsStep trees.now (Task.Main place) text.old.items tasks.old.items text.new.items tasks.new.items) }
+    ensures { OnOk result (IsStep trees.now
+        (Task.Main place) text.old.items tasks.old.items text.new.items tasks.new.items) }
 {
     let Some(node) = trees.node(place) else {
         return Ok(());
@@ -115,7 +119,8 @@ pub fn write_main(
 /// Writes the outgoing ports of a program, as fields.
 pub fn write_outs(text: &mut Vec<u8>, trees: &Trees, place: usize) -> Result<(), AllocError>
     requires { place ≤ length trees.now }
-    ensures { (tasks : List Task) → OnOk result (IsStep trees.now (Task.Outs place) text.old.items tasks text.new.items tasks) }
+    ensures { (tasks : List Task) → OnOk result (IsStep trees.now
+        (Task.Outs place) text.old.items tasks text.new.items tasks) }
 {
     let Some(node) = trees.node(place) else {
         return Ok(());

@@ -20,7 +20,8 @@ pub fn write_value(
     end: &'static [u8],
 ) -> Result<(), AllocError>
     ensures written { OnOk result (text.new.items ≡ text.old.items ++ (name_text (name_view name.now) ++ codes "=")) }
-    ensures left { OnOk result (tasks.new.items ≡ tasks.old.items ++ reverse (Task.Expression place ∷ Task.Bytes end.entry ∷ [])) }
+    ensures left { OnOk result (tasks.new.items ≡ tasks.old.items
+        ++ reverse (Task.Expression place ∷ Task.Bytes end.entry ∷ [])) }
 {
     write_name(text, name)?;
     text.push(b'=')?;
@@ -34,7 +35,8 @@ pub fn leave_statements(
     place: usize,
 ) -> Result<(), AllocError>
     requires { place ≤ length trees.now }
-    ensures { (text : List ℕ) → OnOk result (IsStep trees.now (Task.Statements place) text tasks.old.items text tasks.new.items) }
+    ensures { (text : List ℕ) → OnOk result (IsStep trees.now
+        (Task.Statements place) text tasks.old.items text tasks.new.items) }
 {
     let Some(node) = trees.node(place) else {
         return Ok(());
@@ -56,7 +58,8 @@ pub fn write_statement(
     place: usize,
 ) -> Result<(), AllocError>
     requires { place ≤ length trees.now }
-    ensures { OnOk result (IsStep trees.now (Task.Statement place) text.old.items tasks.old.items text.new.items tasks.new.items) }
+    ensures { OnOk result (IsStep trees.now
+        (Task.Statement place) text.old.items tasks.old.items text.new.items tasks.new.items) }
 {
     let Some(node) = trees.node(place) else {
         return Ok(());
@@ -83,7 +86,8 @@ pub fn write_block(
     place: usize,
 ) -> Result<(), AllocError>
     requires { place ≤ length trees.now }
-    ensures { OnOk result (IsStep trees.now (Task.Block place) text.old.items tasks.old.items text.new.items tasks.new.items) }
+    ensures { OnOk result (IsStep trees.now
+        (Task.Block place) text.old.items tasks.old.items text.new.items tasks.new.items) }
 {
     let Some(node) = trees.node(place) else {
         return text.extend_from_slice(b"continue;");

@@ -2,7 +2,8 @@
 use Rattle.std.specs.Prelude.{ℕ, List, Bool, true, false, Option, Some, None}
 use Rattle.js_tree.specs.declared.tree.Name as name
 use Rattle.js_tree.specs.Postorder.{name_view}
-use Rattle.js_tree.specs.NameReader.{Owner, Own, Of, Begun, OneDollar, TwoDollars, Numbered, NameWord, Dollar, Digits, NoName, Found, Not, Name_is}
+use Rattle.js_tree.specs.NameReader.{Owner, Own, Of, Begun, OneDollar, TwoDollars, Numbered, NameWord, Dollar, Digits}
+use Rattle.js_tree.specs.NameReader.{NoName, Found, Not, Name_is}
 use Rattle.js_reader.specs.declared.name.Phase.{Phase}
 use Rattle.js_reader.specs.declared.name.Phase as phase
 use Rattle.js_reader.specs.declared.name.NameReader as reader

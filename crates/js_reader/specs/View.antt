@@ -2,7 +2,8 @@
 use Rattle.std.specs.Prelude.{ℕ, List, [], ◌∷◌, ◌++◌, reverse, Option, Some, None, codes}
 use Rattle.js_tree.specs.declared.runtime.TheConstants.{TAIL}
 use Rattle.js_tree.specs.Tree.{Program}
-use Rattle.js_tree.specs.Postorder.{Tree, ProgramOf, NoStatement, top, below, expression, items, members, statements, block, lines, build, members_then, name_view, operator_view, helper_view}
+use Rattle.js_tree.specs.Postorder.{Tree, ProgramOf, NoStatement, top, below, expression, items, members, statements}
+use Rattle.js_tree.specs.Postorder.{block, lines, trees_of, members_then, name_view, operator_view, helper_view}
 use Rattle.js_tree.specs.Tree.{Local, NoField, NoLine, JVar}
 use Rattle.js_tree.specs.declared.tree.Name as name
 use Rattle.js_tree.specs.declared.tree.Node as node
@@ -96,7 +97,7 @@ program_at _ = record { lines = NoLine; main = JVar (Local []); name = []; flags
 
 -- what the reader has
 abbrev pub trees_in : Reader → List Tree
-trees_in r = build r.trees
+trees_in r = trees_of r.trees
 
 abbrev pub place_in : Reader → Place
 place_in r = place_of r.frames r.entry (trees_in r)

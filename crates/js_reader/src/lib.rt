@@ -2,7 +2,7 @@
 #![tactic(auto)]
 
 ghost use Rattle.std.specs.Prelude.{◌≡◌, ◌≤◌, IfErr, IfOk, length};
-ghost use Rattle.js_tree.specs.Postorder.{build, top};
+ghost use Rattle.js_tree.specs.Postorder.{trees_of, top};
 ghost use Rattle.js_reader.specs.Read.{IsRead, IsRefused};
 
 mod frames;
@@ -28,7 +28,7 @@ use text::{place_behind, read_text};
 /// Time and memory grow with the number of bytes, and no text needs more of the machine's stack than another.
 pub fn read(alloc: Global, bytes: &[u8]) -> Result<Trees, Refusal>
     requires { length bytes.now ≤ 67108864 }
-    ensures read { IfOk result (λ trees. IsRead (top (build trees)) bytes.now) }
+    ensures read { IfOk result (λ trees. IsRead (top (trees_of trees)) bytes.now) }
     ensures refused { IfErr result (λ refusal. IsRefused refusal bytes.now) }
 {
     let trees = read_text(alloc, bytes)?;

@@ -182,7 +182,8 @@ impl NameReader {
     }
 
     fn in_word(&mut self, byte: u8) -> Result<(), AllocError>
-        ensures { OnOk result (begun_of self.new ≡ reading.name_step (begun_at Word self.old.is_local self.old.owner.items self.old.word.items) byte) }
+        ensures { OnOk result (begun_of self.new ≡ reading.name_step
+            (begun_at Word self.old.is_local self.old.owner.items self.old.word.items) byte) }
     {
         if byte == b'$' {
             self.phase = Phase::Dollar;
@@ -196,7 +197,8 @@ impl NameReader {
     }
 
     fn behind_word(&mut self, byte: u8) -> Result<(), AllocError>
-        ensures { OnOk result (begun_of self.new ≡ reading.name_step (begun_at Dollar self.old.is_local self.old.owner.items self.old.word.items) byte) }
+        ensures { OnOk result (begun_of self.new ≡ reading.name_step
+            (begun_at Dollar self.old.is_local self.old.owner.items self.old.word.items) byte) }
     {
         if byte == b'$' {
             self.phase = Phase::Digits(3, 0);
@@ -215,7 +217,8 @@ impl NameReader {
     }
 
     fn in_digits(&mut self, left: u8, value: u16, byte: u8) -> Result<(), AllocError>
-        ensures { OnOk result (begun_of self.new ≡ reading.name_step (begun_at (Digits left value) self.old.is_local self.old.owner.items self.old.word.items) byte) }
+        ensures { OnOk result (begun_of self.new ≡ reading.name_step
+            (begun_at (Digits left value) self.old.is_local self.old.owner.items self.old.word.items) byte) }
     {
         if !is_hex_digit(byte) {
             self.phase = Phase::NoName;
@@ -245,7 +248,8 @@ impl NameReader {
     }
 
     fn word_name(&self) -> Result<Option<Name>, AllocError>
-        ensures { IfOk result (λ name. found_of name ≡ reading.name_of (begun_at Word self.now.is_local self.now.owner.items self.now.word.items)) }
+        ensures { IfOk result (λ name. found_of name ≡ reading.name_of
+            (begun_at Word self.now.is_local self.now.owner.items self.now.word.items)) }
     {
         if self.is_local {
             return Ok(Some(Name::Local(self.copy(&self.word)?)));

@@ -1,7 +1,9 @@
 //! A text, read byte by byte.
 
-ghost use Rattle.std.specs.Prelude.{◌≡◌, List, [], ◌∷◌, ◌++◌, OnOk, IfOk, codes, if◌then◌else◌, ◌==◌, true, false, not, pos, nat_lt, ◌||◌, ◌*◌, ◌+◌, ◌-◌, ◌^◌, ◌<◌};
-ghost use Rattle.js_reader.specs.View.{block_of, front_of, after_in, naming_frame, naming_node, naming_of, object_of, outs_in, parameter_of, place_of, program_at, state_of, text_of, trees_in};
+ghost use Rattle.std.specs.Prelude.{◌≡◌, List, [], ◌∷◌, ◌++◌, OnOk, IfOk, codes, if◌then◌else◌, ◌==◌, true, false, not};
+ghost use Rattle.std.specs.Prelude.{pos, nat_lt, ◌||◌, ◌*◌, ◌+◌, ◌-◌, ◌^◌, ◌<◌};
+ghost use Rattle.js_reader.specs.View.{block_of, front_of, after_in, naming_frame, naming_node, naming_of, object_of};
+ghost use Rattle.js_reader.specs.View.{outs_in, parameter_of, place_of, program_at, state_of, text_of, trees_in};
 ghost use Rattle.js_tree.specs.declared.runtime.TheConstants.{TAIL};
 ghost use Rattle.js_reader.specs.declared.mode.After.TheVariants.{Finished};
 ghost use Rattle.js_reader.specs.NameView.{begun_of, found_of};
@@ -10,7 +12,8 @@ ghost use Rattle.js_reader.specs.Words.{begun_word, found_word, word_view};
 ghost use Rattle.js_reader.specs.Empty.{is_finished, is_no_item, is_no_member};
 ghost use Rattle.js_tree.specs.NameReader.{begin_name, greatest, is_digit};
 ghost use Rattle.wire_value.specs.Exact as exact;
-ghost use Rattle.js_tree.specs.Postorder.{apply, below, block, expression, items, lines, members, members_then, name_view, operator_view, helper_view, statements, top, Tree};
+ghost use Rattle.js_tree.specs.Postorder.{apply, below, block, expression, items, lines, members, members_then};
+ghost use Rattle.js_tree.specs.Postorder.{name_view, operator_view, helper_view, statements, top, Tree};
 ghost use Rattle.js_tree.specs.Tree.{JBlock, JVar, NoField};
 ghost use Rattle.js_tree.specs.Automaton as machine;
 
@@ -67,7 +70,9 @@ impl Reader {
 
     /// The last expression ends at `byte`: neither a call nor a property follows.
     fn close(&mut self, byte: u8) -> Result<(), AllocError>
-        ensures { OnOk result (state_of self.new ≡ machine.close (place_of self.old.frames self.old.entry (below (trees_in self.old))) (expression (top (trees_in self.old))) byte) }
+        ensures { OnOk result (state_of self.new ≡ machine.close
+            (place_of self.old.frames self.old.entry (below (trees_in self.old)))
+            (expression (top (trees_in self.old))) byte) }
     {
         let Some(frame) = self.frames.pop() else {
             return self.close_main(byte);
@@ -77,7 +82,9 @@ impl Reader {
 
     /// The last expression ends at `byte` in this frame, which is none of the others any more.
     fn close_frame(&mut self, frame: Frame, byte: u8) -> Result<(), AllocError>
-        ensures { OnOk result (state_of self.new ≡ machine.close (place_of (frame ∷ self.old.frames) self.old.entry (below (trees_in self.old))) (expression (top (trees_in self.old))) byte) }
+        ensures { OnOk result (state_of self.new ≡ machine.close
+            (place_of (frame ∷ self.old.frames) self.old.entry (below (trees_in self.old)))
+            (expression (top (trees_in self.old))) byte) }
     {
         match frame {
             Frame::Argument => self.close_argument(byte),
@@ -105,7 +112,9 @@ impl Reader {
 
     /// After the first expression in a bracket.
     fn operator(&mut self, byte: u8) -> Result<(), AllocError>
-        ensures { OnOk result (state_of self.new ≡ machine.close (machine.FirstIn (place_of self.old.frames self.old.entry (below (trees_in self.old)))) (expression (top (trees_in self.old))) byte) }
+        ensures { OnOk result (state_of self.new ≡ machine.close
+            (machine.FirstIn (place_of self.old.frames self.old.entry (below (trees_in self.old))))
+            (expression (top (trees_in self.old))) byte) }
     {
         match byte {
             b'+' => self.right(Operator::Plus),
@@ -131,7 +140,9 @@ impl Reader {
 
     /// After an operator of one character.
     fn right(&mut self, operator: Operator) -> Result<(), AllocError>
-        ensures { OnOk result (state_of self.new ≡ machine.Want (machine.RightOf (operator_view operator) (expression (top (trees_in self.old))) (place_of self.old.frames self.old.entry (below (trees_in self.old))))) }
+        ensures { OnOk result (state_of self.new ≡ machine.Want
+            (machine.RightOf (operator_view operator) (expression (top (trees_in self.old)))
+            (place_of self.old.frames self.old.entry (below (trees_in self.old))))) }
     {
         self.frames.push(Frame::Right(operator))?;
         self.mode = Mode::Want;
@@ -140,7 +151,9 @@ impl Reader {
 
     /// After the first character of an operator that goes on so.
     fn second(&mut self, operator: Operator, rest: &'static [u8]) -> Result<(), AllocError>
-        ensures { OnOk result (state_of self.new ≡ machine.Known rest.now (machine.Want (machine.RightOf (operator_view operator) (expression (top (trees_in self.old))) (place_of self.old.frames self.old.entry (below (trees_in self.old)))))) }
+        ensures { OnOk result (state_of self.new ≡ machine.Known rest.now
+            (machine.Want (machine.RightOf (operator_view operator) (expression (top (trees_in self.old)))
+            (place_of self.old.frames self.old.entry (below (trees_in self.old)))))) }
     {
         self.frames.push(Frame::Right(operator))?;
         self.mode = Mode::Known(rest, After::Want);
@@ -149,7 +162,10 @@ impl Reader {
 
     /// After the expression after a question mark.
     fn colon(&mut self, byte: u8) -> Result<(), AllocError>
-        ensures { OnOk result (state_of self.new ≡ machine.close (machine.ThenOf (expression (top (below (trees_in self.old)))) (place_of self.old.frames self.old.entry (below (below (trees_in self.old))))) (expression (top (trees_in self.old))) byte) }
+        ensures { OnOk result (state_of self.new ≡ machine.close
+            (machine.ThenOf (expression (top (below (trees_in self.old))))
+            (place_of self.old.frames self.old.entry (below (below (trees_in self.old)))))
+            (expression (top (trees_in self.old))) byte) }
     {
         if byte == b':' {
             self.frames.push(Frame::Else)?;
@@ -162,7 +178,10 @@ impl Reader {
 
     /// After the value of a field of that name.
     fn close_field(&mut self, byte: u8, name: Units) -> Result<(), AllocError>
-        ensures { OnOk result (state_of self.new ≡ machine.close (machine.FieldIn (members (top (below (trees_in self.old)))) name (place_of self.old.frames self.old.entry (below (below (trees_in self.old))))) (expression (top (trees_in self.old))) byte) }
+        ensures { OnOk result (state_of self.new ≡ machine.close
+            (machine.FieldIn (members (top (below (trees_in self.old)))) name
+            (place_of self.old.frames self.old.entry (below (below (trees_in self.old)))))
+            (expression (top (trees_in self.old))) byte) }
     {
         match byte {
             b',' => {
@@ -181,7 +200,10 @@ impl Reader {
 
     /// After an item of a list.
     fn close_item(&mut self, byte: u8) -> Result<(), AllocError>
-        ensures { OnOk result (state_of self.new ≡ machine.close (machine.ListIn (items (top (below (trees_in self.old)))) (place_of self.old.frames self.old.entry (below (below (trees_in self.old))))) (expression (top (trees_in self.old))) byte) }
+        ensures { OnOk result (state_of self.new ≡ machine.close
+            (machine.ListIn (items (top (below (trees_in self.old))))
+            (place_of self.old.frames self.old.entry (below (below (trees_in self.old)))))
+            (expression (top (trees_in self.old))) byte) }
     {
         match byte {
             b',' => {
@@ -201,7 +223,10 @@ impl Reader {
 
     /// After an argument of a function of the fixed text.
     fn close_given(&mut self, byte: u8, helper: Helper) -> Result<(), AllocError>
-        ensures { OnOk result (state_of self.new ≡ machine.close (machine.GivenTo (helper_view helper) (items (top (below (trees_in self.old)))) (place_of self.old.frames self.old.entry (below (below (trees_in self.old))))) (expression (top (trees_in self.old))) byte) }
+        ensures { OnOk result (state_of self.new ≡ machine.close
+            (machine.GivenTo (helper_view helper) (items (top (below (trees_in self.old))))
+            (place_of self.old.frames self.old.entry (below (below (trees_in self.old)))))
+            (expression (top (trees_in self.old))) byte) }
     {
         match byte {
             b',' => {
@@ -243,7 +268,10 @@ impl Reader {
 
     /// After the expression of a `return`.
     fn close_return(&mut self, byte: u8) -> Result<(), AllocError>
-        ensures { OnOk result (state_of self.new ≡ machine.close (machine.ReturnIn (statements (top (below (trees_in self.old)))) (block_of self.old.frames self.old.entry (below (below (trees_in self.old))))) (expression (top (trees_in self.old))) byte) }
+        ensures { OnOk result (state_of self.new ≡ machine.close
+            (machine.ReturnIn (statements (top (below (trees_in self.old))))
+            (block_of self.old.frames self.old.entry (below (below (trees_in self.old)))))
+            (expression (top (trees_in self.old))) byte) }
     {
         if byte == b';' {
             self.trees.push(Node::Return)?;
@@ -256,7 +284,10 @@ impl Reader {
 
     /// After the test of an `if`.
     fn close_test(&mut self, byte: u8) -> Result<(), AllocError>
-        ensures { OnOk result (state_of self.new ≡ machine.close (machine.TestIn (statements (top (below (trees_in self.old)))) (block_of self.old.frames self.old.entry (below (below (trees_in self.old))))) (expression (top (trees_in self.old))) byte) }
+        ensures { OnOk result (state_of self.new ≡ machine.close
+            (machine.TestIn (statements (top (below (trees_in self.old))))
+            (block_of self.old.frames self.old.entry (below (below (trees_in self.old)))))
+            (expression (top (trees_in self.old))) byte) }
     {
         if byte == b')' {
             self.frames.push(Frame::ThenBlock)?;
@@ -270,7 +301,9 @@ impl Reader {
 
     /// After the expression of a line that declares that name.
     fn close_line(&mut self, byte: u8, name: Name) -> Result<(), AllocError>
-        ensures { OnOk result (state_of self.new ≡ machine.close (machine.LineIn (lines (top (below (trees_in self.old)))) (name_view name)) (expression (top (trees_in self.old))) byte) }
+        ensures { OnOk result (state_of self.new ≡ machine.close
+            (machine.LineIn (lines (top (below (trees_in self.old)))) (name_view name))
+            (expression (top (trees_in self.old))) byte) }
     {
         if byte == b';' {
             self.trees.push(Node::Line(name))?;
@@ -283,7 +316,9 @@ impl Reader {
 
     /// After the program of `_main`.
     fn close_main(&mut self, byte: u8) -> Result<(), AllocError>
-        ensures { OnOk result (state_of self.new ≡ machine.close (machine.MainIn (lines (top (below (trees_in self.old)))) self.old.entry) (expression (top (trees_in self.old))) byte) }
+        ensures { OnOk result (state_of self.new ≡ machine.close
+            (machine.MainIn (lines (top (below (trees_in self.old)))) self.old.entry)
+            (expression (top (trees_in self.old))) byte) }
     {
         if byte == b',' {
             self.frames.push(Frame::Flags)?;
@@ -296,7 +331,9 @@ impl Reader {
 
     /// After the decoder of the flags.
     fn close_flags(&mut self, byte: u8) -> Result<(), AllocError>
-        ensures { OnOk result (state_of self.new ≡ machine.close (machine.FlagsIn (lines (top (below (below (trees_in self.old))))) self.old.entry (expression (top (below (trees_in self.old))))) (expression (top (trees_in self.old))) byte) }
+        ensures { OnOk result (state_of self.new ≡ machine.close
+            (machine.FlagsIn (lines (top (below (below (trees_in self.old))))) self.old.entry
+            (expression (top (below (trees_in self.old))))) (expression (top (trees_in self.old))) byte) }
     {
         if byte == b',' {
             self.trees.push(Node::NoField)?;
@@ -309,7 +346,9 @@ impl Reader {
 
     /// After the decoder of the incoming port of that name.
     fn close_port(&mut self, byte: u8, name: Units) -> Result<(), AllocError>
-        ensures { OnOk result (state_of self.new ≡ machine.close (machine.PortIn (front_of self.old.entry (below (below (trees_in self.old)))) (members (top (below (trees_in self.old)))) name) (expression (top (trees_in self.old))) byte) }
+        ensures { OnOk result (state_of self.new ≡ machine.close
+            (machine.PortIn (front_of self.old.entry (below (below (trees_in self.old))))
+            (members (top (below (trees_in self.old)))) name) (expression (top (trees_in self.old))) byte) }
     {
         match byte {
             b',' => {
@@ -327,7 +366,9 @@ impl Reader {
 
     /// After the incoming ports.
     fn begin_outs(&mut self)
-        ensures { state_of self.new ≡ machine.Known (codes ",\"outs\":{") (machine.WantOut (front_of self.old.entry (below (trees_in self.old))) (members_then (members (top (trees_in self.old))) NoField) []) }
+        ensures { state_of self.new ≡ machine.Known (codes ",\"outs\":{")
+            (machine.WantOut (front_of self.old.entry (below (trees_in self.old)))
+            (members_then (members (top (trees_in self.old))) NoField) []) }
     {
         self.outs.clear();
         self.mode = Mode::Known(b",\"outs\":{", After::Out);
@@ -389,7 +430,8 @@ impl Reader {
 
     /// After an expression.
     fn have(&mut self, byte: u8) -> Result<(), AllocError>
-        ensures { OnOk result (state_of self.new ≡ machine.have (expression (top (trees_in self.old))) (place_of self.old.frames self.old.entry (below (trees_in self.old))) byte) }
+        ensures { OnOk result (state_of self.new ≡ machine.have (expression (top (trees_in self.old)))
+            (place_of self.old.frames self.old.entry (below (trees_in self.old))) byte) }
     {
         match byte {
             b'(' => {
@@ -407,7 +449,8 @@ impl Reader {
 
     /// Before an expression.
     fn want(&mut self, byte: u8) -> Result<(), AllocError>
-        ensures { OnOk result (state_of self.new ≡ machine.want (place_of self.old.frames self.old.entry (trees_in self.old)) byte) }
+        ensures { OnOk result (state_of self.new ≡ machine.want
+            (place_of self.old.frames self.old.entry (trees_in self.old)) byte) }
     {
         match byte {
             b'$' | b'A'..=b'Z' => self.begin_name(byte, Naming::Variable),
@@ -439,7 +482,8 @@ impl Reader {
 
     /// Begins a text.
     fn begin_text(&mut self, text: Text)
-        ensures { state_of self.new ≡ machine.InText [] (text_of text self.old.frames self.old.entry (trees_in self.old) (outs_in self.old)) }
+        ensures { state_of self.new ≡ machine.InText [] (text_of text self.old.frames self.old.entry
+            (trees_in self.old) (outs_in self.old)) }
     {
         self.units.clear();
         self.mode = Mode::Text(text);
@@ -447,7 +491,8 @@ impl Reader {
 
     /// Begins a name at its first byte.
     fn begin_name(&mut self, byte: u8, naming: Naming) -> Result<(), AllocError>
-        ensures { OnOk result (state_of self.new ≡ machine.name_at (begin_name byte) (naming_of naming self.old.frames self.old.entry (trees_in self.old))) }
+        ensures { OnOk result (state_of self.new ≡ machine.name_at (begin_name byte)
+            (naming_of naming self.old.frames self.old.entry (trees_in self.old))) }
     {
         self.name.begin(byte)?;
         self.in_name(naming);
@@ -456,7 +501,8 @@ impl Reader {
 
     /// In a name, if what has been read of it begins one.
     fn in_name(&mut self, naming: Naming)
-        ensures { state_of self.new ≡ machine.name_at (begun_of self.old.name) (naming_of naming self.old.frames self.old.entry (trees_in self.old)) }
+        ensures { state_of self.new ≡ machine.name_at (begun_of self.old.name)
+            (naming_of naming self.old.frames self.old.entry (trees_in self.old)) }
     {
         self.mode = if self.name.is_begun() {
             Mode::Name(naming)
@@ -467,7 +513,8 @@ impl Reader {
 
     /// At what may stand in place of an expression.
     fn no_expression(&mut self, byte: u8) -> Result<(), AllocError>
-        ensures { OnOk result (state_of self.new ≡ machine.no_expression (place_of self.old.frames self.old.entry (trees_in self.old)) byte) }
+        ensures { OnOk result (state_of self.new ≡ machine.no_expression
+            (place_of self.old.frames self.old.entry (trees_in self.old)) byte) }
     {
         let Some(frame) = self.frames.pop() else {
             self.mode = Mode::Dead;
@@ -486,7 +533,9 @@ impl Reader {
 
     /// At the end of a list that may be empty.
     fn no_item(&mut self, byte: u8) -> Result<(), AllocError>
-        ensures { OnOk result (state_of self.new ≡ machine.no_expression (machine.ListIn (items (top (trees_in self.old))) (place_of self.old.frames self.old.entry (below (trees_in self.old)))) byte) }
+        ensures { OnOk result (state_of self.new ≡ machine.no_expression
+            (machine.ListIn (items (top (trees_in self.old)))
+            (place_of self.old.frames self.old.entry (below (trees_in self.old)))) byte) }
     {
         if byte == b']' && self.has_no_item() {
             self.trees.push(Node::List)?;
@@ -499,7 +548,9 @@ impl Reader {
 
     /// At the end of arguments of which there may be none.
     fn no_argument(&mut self, byte: u8, helper: Helper) -> Result<(), AllocError>
-        ensures { OnOk result (state_of self.new ≡ machine.no_expression (machine.GivenTo (helper_view helper) (items (top (trees_in self.old))) (place_of self.old.frames self.old.entry (below (trees_in self.old)))) byte) }
+        ensures { OnOk result (state_of self.new ≡ machine.no_expression
+            (machine.GivenTo (helper_view helper) (items (top (trees_in self.old)))
+            (place_of self.old.frames self.old.entry (below (trees_in self.old)))) byte) }
     {
         if byte == b')' && self.has_no_item() {
             self.trees.push(Node::Helper(helper))?;
@@ -526,7 +577,8 @@ impl Reader {
 
     /// After a bracket, at what is no expression.
     fn no_first(&mut self, byte: u8) -> Result<(), AllocError>
-        ensures { OnOk result (state_of self.new ≡ machine.no_expression (machine.FirstIn (place_of self.old.frames self.old.entry (trees_in self.old))) byte) }
+        ensures { OnOk result (state_of self.new ≡ machine.no_expression
+            (machine.FirstIn (place_of self.old.frames self.old.entry (trees_in self.old))) byte) }
     {
         match byte {
             b'-' => self.mode = Mode::Minus,
@@ -538,7 +590,8 @@ impl Reader {
 
     /// After `(()`.
     fn no_parameter(&mut self) -> Result<(), AllocError>
-        ensures { OnOk result (state_of self.new ≡ machine.no_parameter (place_of self.old.frames self.old.entry (trees_in self.old)) 41) }
+        ensures { OnOk result (state_of self.new ≡ machine.no_parameter
+            (place_of self.old.frames self.old.entry (trees_in self.old)) 41) }
     {
         let Some(frame) = self.frames.pop() else {
             self.mode = Mode::Dead;
@@ -557,7 +610,8 @@ impl Reader {
 
     /// At one byte more of a word that an expression begins with.
     fn in_word(&mut self, byte: u8) -> Result<(), AllocError>
-        ensures { OnOk result (state_of self.new ≡ machine.in_word (self.old.word.items ++ byte ∷ []) (place_of self.old.frames self.old.entry (trees_in self.old))) }
+        ensures { OnOk result (state_of self.new ≡ machine.in_word (self.old.word.items ++ byte ∷ [])
+            (place_of self.old.frames self.old.entry (trees_in self.old))) }
     {
         self.word.push(byte)?;
         let found = find_word(&self.word);
@@ -566,7 +620,9 @@ impl Reader {
 
     /// After a word, if one has been found.
     fn at_word(&mut self, found: Option<Word>) -> Result<(), AllocError>
-        ensures { OnOk result (state_of self.new ≡ found_word found (begun_word self.old.word.items (place_of self.old.frames self.old.entry (trees_in self.old))) (λ w. machine.behind_word w (place_of self.old.frames self.old.entry (trees_in self.old)))) }
+        ensures { OnOk result (state_of self.new ≡ found_word found
+            (begun_word self.old.word.items (place_of self.old.frames self.old.entry (trees_in self.old)))
+            (λ w. machine.behind_word w (place_of self.old.frames self.old.entry (trees_in self.old)))) }
     {
         let Some(word) = found else {
             self.mode = if begins_word(&self.word) {
@@ -581,7 +637,8 @@ impl Reader {
 
     /// After a word that an expression begins with.
     fn behind_word(&mut self, word: Word) -> Result<(), AllocError>
-        ensures { OnOk result (state_of self.new ≡ machine.behind_word (word_view word) (place_of self.old.frames self.old.entry (trees_in self.old))) }
+        ensures { OnOk result (state_of self.new ≡ machine.behind_word (word_view word)
+            (place_of self.old.frames self.old.entry (trees_in self.old))) }
     {
         match word {
             Word::True => {
@@ -608,7 +665,9 @@ impl Reader {
 
     /// At one byte more of a word that a statement begins with.
     fn in_keyword(&mut self, byte: u8) -> Result<(), AllocError>
-        ensures { OnOk result (state_of self.new ≡ machine.in_keyword (self.old.word.items ++ byte ∷ []) (statements (top (trees_in self.old))) (block_of self.old.frames self.old.entry (below (trees_in self.old)))) }
+        ensures { OnOk result (state_of self.new ≡ machine.in_keyword (self.old.word.items ++ byte ∷ [])
+            (statements (top (trees_in self.old))) (block_of self.old.frames self.old.entry
+            (below (trees_in self.old)))) }
     {
         self.word.push(byte)?;
         self.at_keyword()
@@ -616,7 +675,9 @@ impl Reader {
 
     /// After a word that a statement begins with, if one has been found.
     fn at_keyword(&mut self) -> Result<(), AllocError>
-        ensures { OnOk result (state_of self.new ≡ machine.in_keyword self.old.word.items (statements (top (trees_in self.old))) (block_of self.old.frames self.old.entry (below (trees_in self.old)))) }
+        ensures { OnOk result (state_of self.new ≡ machine.in_keyword self.old.word.items
+            (statements (top (trees_in self.old))) (block_of self.old.frames self.old.entry
+            (below (trees_in self.old)))) }
     {
         if is(&self.word, b"const ") {
             self.mode = Mode::WantName(Naming::Const);
@@ -645,7 +706,8 @@ impl Reader {
 
     /// At one byte more of a name, or after it.
     fn name(&mut self, byte: u8, naming: Naming) -> Result<(), AllocError>
-        ensures { OnOk result (state_of self.new ≡ machine.in_name (begun_of self.old.name) (naming_of naming self.old.frames self.old.entry (trees_in self.old)) byte) }
+        ensures { OnOk result (state_of self.new ≡ machine.in_name (begun_of self.old.name)
+            (naming_of naming self.old.frames self.old.entry (trees_in self.old)) byte) }
     {
         if is_run(byte) {
             self.name.step(byte)?;
@@ -658,7 +720,8 @@ impl Reader {
 
     /// After what may be a name.
     fn end_name(&mut self, name: Option<Name>, byte: u8, naming: Naming) -> Result<(), AllocError>
-        ensures { OnOk result (state_of self.new ≡ machine.end_name (found_of name) (naming_of naming self.old.frames self.old.entry (trees_in self.old)) byte) }
+        ensures { OnOk result (state_of self.new ≡ machine.end_name (found_of name)
+            (naming_of naming self.old.frames self.old.entry (trees_in self.old)) byte) }
     {
         match name {
             Some(name) => self.behind_name(name, byte, naming),
@@ -671,7 +734,8 @@ impl Reader {
 
     /// After a name.
     fn behind_name(&mut self, name: Name, byte: u8, naming: Naming) -> Result<(), AllocError>
-        ensures { OnOk result (state_of self.new ≡ machine.behind_name (name_view name) (naming_of naming self.old.frames self.old.entry (trees_in self.old)) byte) }
+        ensures { OnOk result (state_of self.new ≡ machine.behind_name (name_view name)
+            (naming_of naming self.old.frames self.old.entry (trees_in self.old)) byte) }
     {
         match naming {
             Naming::Variable => self.behind_variable(name, byte),
@@ -706,7 +770,8 @@ impl Reader {
 
     /// After a name that is an expression.
     fn behind_variable(&mut self, name: Name, byte: u8) -> Result<(), AllocError>
-        ensures { OnOk result (state_of self.new ≡ machine.have (JVar (name_view name)) (place_of self.old.frames self.old.entry (trees_in self.old)) byte) }
+        ensures { OnOk result (state_of self.new ≡ machine.have (JVar (name_view name))
+            (place_of self.old.frames self.old.entry (trees_in self.old)) byte) }
     {
         self.trees.push(Node::Var(name))?;
         self.have(byte)
@@ -714,7 +779,8 @@ impl Reader {
 
     /// At one digit more of a number, or after it.
     fn int(&mut self, number: u64, byte: u8) -> Result<(), AllocError>
-        ensures { OnOk result (state_of self.new ≡ machine.in_int number (place_of self.old.frames self.old.entry (trees_in self.old)) byte) }
+        ensures { OnOk result (state_of self.new ≡ machine.in_int number
+            (place_of self.old.frames self.old.entry (trees_in self.old)) byte) }
     {
         if is_digit(byte) {
             if number == 0 {
@@ -735,7 +801,8 @@ impl Reader {
 
     /// At the first digit of a negative number.
     fn minus(&mut self, byte: u8) -> Result<(), AllocError>
-        ensures { OnOk result (state_of self.new ≡ machine.step (machine.Minus_seen (place_of self.old.frames self.old.entry (trees_in self.old))) byte) }
+        ensures { OnOk result (state_of self.new ≡ machine.step
+            (machine.Minus_seen (place_of self.old.frames self.old.entry (trees_in self.old))) byte) }
     {
         if is_digit(byte) {
             self.negative_at(u64::from(byte - b'0'));
@@ -747,7 +814,8 @@ impl Reader {
 
     /// In a negative number, if it is one.
     fn negative_at(&mut self, number: u64)
-        ensures { state_of self.new ≡ machine.negative_at number (place_of self.old.frames self.old.entry (trees_in self.old)) }
+        ensures { state_of self.new ≡ machine.negative_at number
+            (place_of self.old.frames self.old.entry (trees_in self.old)) }
     {
         self.mode = if number > 0 && is_exact(number) {
             Mode::Negative(number)
@@ -758,7 +826,8 @@ impl Reader {
 
     /// At one digit more of a negative number, or after it.
     fn negative(&mut self, number: u64, byte: u8) -> Result<(), AllocError>
-        ensures { OnOk result (state_of self.new ≡ machine.in_negative number (place_of self.old.frames self.old.entry (trees_in self.old)) byte) }
+        ensures { OnOk result (state_of self.new ≡ machine.in_negative number
+            (place_of self.old.frames self.old.entry (trees_in self.old)) byte) }
     {
         if is_digit(byte) {
             let more = digit_behind(number, byte)?;
@@ -777,7 +846,8 @@ impl Reader {
 
     /// In a text.
     fn text(&mut self, byte: u8, text: Text) -> Result<(), AllocError>
-        ensures { OnOk result (state_of self.new ≡ machine.in_text self.old.units.items (text_of text self.old.frames self.old.entry (trees_in self.old) (outs_in self.old)) byte) }
+        ensures { OnOk result (state_of self.new ≡ machine.in_text self.old.units.items
+            (text_of text self.old.frames self.old.entry (trees_in self.old) (outs_in self.old)) byte) }
     {
         match byte {
             b'"' => self.behind_text(text),
@@ -795,7 +865,8 @@ impl Reader {
 
     /// One unit more of a text.
     fn unit(&mut self, unit: u16, text: Text) -> Result<(), AllocError>
-        ensures { OnOk result (state_of self.new ≡ machine.InText (self.old.units.items ++ unit ∷ []) (text_of text self.old.frames self.old.entry (trees_in self.old) (outs_in self.old))) }
+        ensures { OnOk result (state_of self.new ≡ machine.InText (self.old.units.items ++ unit ∷ [])
+            (text_of text self.old.frames self.old.entry (trees_in self.old) (outs_in self.old))) }
     {
         self.units.push(unit)?;
         self.mode = Mode::Text(text);
@@ -804,7 +875,8 @@ impl Reader {
 
     /// After a `\` in a text.
     fn escape(&mut self, byte: u8, text: Text) -> Result<(), AllocError>
-        ensures { OnOk result (state_of self.new ≡ machine.in_escape self.old.units.items (text_of text self.old.frames self.old.entry (trees_in self.old) (outs_in self.old)) byte) }
+        ensures { OnOk result (state_of self.new ≡ machine.in_escape self.old.units.items
+            (text_of text self.old.frames self.old.entry (trees_in self.old) (outs_in self.old)) byte) }
     {
         match byte {
             b'"' | b'\\' => self.unit(u16::from(byte), text),
@@ -821,7 +893,9 @@ impl Reader {
 
     /// In the digits of base 16 of a unit.
     fn digits(&mut self, left: u8, value: u16, byte: u8, text: Text) -> Result<(), AllocError>
-        ensures { OnOk result (state_of self.new ≡ machine.step (machine.InDigits self.old.units.items left value (text_of text self.old.frames self.old.entry (trees_in self.old) (outs_in self.old))) byte) }
+        ensures { OnOk result (state_of self.new ≡ machine.step
+            (machine.InDigits self.old.units.items left value
+            (text_of text self.old.frames self.old.entry (trees_in self.old) (outs_in self.old))) byte) }
     {
         if !is_hex_digit(byte) {
             self.mode = Mode::Dead;
@@ -845,7 +919,8 @@ impl Reader {
 
     /// After the closing quote of a text.
     fn behind_text(&mut self, text: Text) -> Result<(), AllocError>
-        ensures { OnOk result (state_of self.new ≡ machine.behind_text self.old.units.items (text_of text self.old.frames self.old.entry (trees_in self.old) (outs_in self.old))) }
+        ensures { OnOk result (state_of self.new ≡ machine.behind_text self.old.units.items
+            (text_of text self.old.frames self.old.entry (trees_in self.old) (outs_in self.old))) }
     {
         let units = Units::from_vec(Vec::from_slice(self.alloc, &self.units)?);
         match text {
@@ -880,7 +955,8 @@ impl Reader {
 
     /// Before a field.
     fn field(&mut self, byte: u8, object: Object) -> Result<(), AllocError>
-        ensures { OnOk result (state_of self.new ≡ machine.want_field (members (top (trees_in self.old))) (object_of object self.old.frames self.old.entry (below (trees_in self.old))) byte) }
+        ensures { OnOk result (state_of self.new ≡ machine.want_field (members (top (trees_in self.old)))
+            (object_of object self.old.frames self.old.entry (below (trees_in self.old))) byte) }
     {
         match byte {
             b'"' => {
@@ -897,7 +973,8 @@ impl Reader {
 
     /// Where an object ends before a field.
     fn no_field(&mut self, object: Object) -> Result<(), AllocError>
-        ensures { OnOk result (state_of self.new ≡ machine.close_fields (members (top (trees_in self.old))) (object_of object self.old.frames self.old.entry (below (trees_in self.old)))) }
+        ensures { OnOk result (state_of self.new ≡ machine.close_fields (members (top (trees_in self.old)))
+            (object_of object self.old.frames self.old.entry (below (trees_in self.old)))) }
     {
         if !self.has_no_field() {
             self.mode = Mode::Dead;
@@ -915,7 +992,8 @@ impl Reader {
 
     /// Before a statement.
     fn statement(&mut self, byte: u8) -> Result<(), AllocError>
-        ensures { OnOk result (state_of self.new ≡ machine.want_statement (statements (top (trees_in self.old))) (block_of self.old.frames self.old.entry (below (trees_in self.old))) byte) }
+        ensures { OnOk result (state_of self.new ≡ machine.want_statement (statements (top (trees_in self.old)))
+            (block_of self.old.frames self.old.entry (below (trees_in self.old))) byte) }
     {
         match byte {
             b'$' | b'A'..=b'Z' => self.begin_name(byte, Naming::Assign),
@@ -928,7 +1006,9 @@ impl Reader {
 
     /// After the last statement of a block.
     fn ended(&mut self, byte: u8) -> Result<(), AllocError>
-        ensures { OnOk result (state_of self.new ≡ machine.step (machine.Ended (statements (top (below (trees_in self.old)))) (block (top (trees_in self.old))) (block_of self.old.frames self.old.entry (below (below (trees_in self.old))))) byte) }
+        ensures { OnOk result (state_of self.new ≡ machine.step
+            (machine.Ended (statements (top (below (trees_in self.old)))) (block (top (trees_in self.old)))
+            (block_of self.old.frames self.old.entry (below (below (trees_in self.old))))) byte) }
     {
         if byte == b'}' {
             self.trees.push(Node::Ended)?;
@@ -940,7 +1020,8 @@ impl Reader {
 
     /// After a block.
     fn close_block(&mut self) -> Result<(), AllocError>
-        ensures { OnOk result (state_of self.new ≡ machine.close_block (block (top (trees_in self.old))) (block_of self.old.frames self.old.entry (below (trees_in self.old)))) }
+        ensures { OnOk result (state_of self.new ≡ machine.close_block (block (top (trees_in self.old)))
+            (block_of self.old.frames self.old.entry (below (trees_in self.old)))) }
     {
         let Some(frame) = self.frames.pop() else {
             return self.called();
@@ -1001,7 +1082,9 @@ impl Reader {
 
     /// After the block of a function that is called at once.
     fn called(&mut self) -> Result<(), AllocError>
-        ensures { OnOk result (state_of self.new ≡ machine.Known (codes ")()") (machine.Have (JBlock (block (top (trees_in self.old)))) (place_of self.old.frames self.old.entry (below (trees_in self.old))))) }
+        ensures { OnOk result (state_of self.new ≡ machine.Known (codes ")()")
+            (machine.Have (JBlock (block (top (trees_in self.old))))
+            (place_of self.old.frames self.old.entry (below (trees_in self.old))))) }
     {
         self.trees.push(Node::Block)?;
         self.mode = Mode::Known(b")()", After::Have);
@@ -1010,7 +1093,8 @@ impl Reader {
 
     /// After an `=` after the first expression in a bracket.
     fn equals(&mut self, byte: u8) -> Result<(), AllocError>
-        ensures { OnOk result (state_of self.new ≡ machine.equals (expression (top (trees_in self.old))) (place_of self.old.frames self.old.entry (below (trees_in self.old))) byte) }
+        ensures { OnOk result (state_of self.new ≡ machine.equals (expression (top (trees_in self.old)))
+            (place_of self.old.frames self.old.entry (below (trees_in self.old))) byte) }
     {
         match byte {
             b'=' => self.second(Operator::StrictEquals, b"="),
@@ -1024,7 +1108,8 @@ impl Reader {
 
     /// After `=>`.
     fn parameter(&mut self) -> Result<(), AllocError>
-        ensures { OnOk result (state_of self.new ≡ machine.equals (expression (top (trees_in self.old))) (place_of self.old.frames self.old.entry (below (trees_in self.old))) 62) }
+        ensures { OnOk result (state_of self.new ≡ machine.equals (expression (top (trees_in self.old)))
+            (place_of self.old.frames self.old.entry (below (trees_in self.old))) 62) }
     {
         let Some(node) = self.trees.pop() else {
             self.mode = Mode::Dead;
@@ -1064,7 +1149,9 @@ impl Reader {
 
     /// Before an outgoing port.
     fn out(&mut self, byte: u8) -> Result<(), AllocError>
-        ensures { OnOk result (state_of self.new ≡ machine.want_out (front_of self.old.entry (below (trees_in self.old))) (members_then (members (top (trees_in self.old))) NoField) (outs_in self.old) byte) }
+        ensures { OnOk result (state_of self.new ≡ machine.want_out
+            (front_of self.old.entry (below (trees_in self.old)))
+            (members_then (members (top (trees_in self.old))) NoField) (outs_in self.old) byte) }
     {
         match byte {
             b'"' => {
@@ -1082,7 +1169,9 @@ impl Reader {
     /// After an outgoing port.
     #[tactic(auto, using(crate::proofs::Outs::outs_whole))]
     fn out_done(&mut self, byte: u8) -> Result<(), AllocError>
-        ensures { OnOk result (state_of self.new ≡ machine.have_out (front_of self.old.entry (below (trees_in self.old))) (members_then (members (top (trees_in self.old))) NoField) self.old.out (outs_in self.old) byte) }
+        ensures { OnOk result (state_of self.new ≡ machine.have_out
+            (front_of self.old.entry (below (trees_in self.old)))
+            (members_then (members (top (trees_in self.old))) NoField) self.old.out (outs_in self.old) byte) }
     {
         if byte != b',' && byte != b'}' {
             self.mode = Mode::Dead;
@@ -1099,7 +1188,9 @@ impl Reader {
 
     /// After the outgoing ports.
     fn end_outs(&mut self) -> Result<(), AllocError>
-        ensures { OnOk result (state_of self.new ≡ machine.end_outs (front_of self.old.entry (below (trees_in self.old))) (members_then (members (top (trees_in self.old))) NoField) self.old.outs.items) }
+        ensures { OnOk result (state_of self.new ≡ machine.end_outs
+            (front_of self.old.entry (below (trees_in self.old)))
+            (members_then (members (top (trees_in self.old))) NoField) self.old.outs.items) }
     {
         let name = mem::replace(&mut self.entry, Units::from_vec(Vec::new(self.alloc)));
         let outs = mem::replace(&mut self.outs, Vec::new(self.alloc));
@@ -1148,7 +1239,8 @@ impl Reader {
     /// At the bytes before the fixed end.
     #[tactic(auto, using(crate::proofs::Closing::closing_step))]
     fn closing(&mut self, bytes: &'static [u8], byte: u8)
-        ensures { state_of self.new ≡ machine.step (machine.Known (bytes.now ++ TAIL.now) (after_in Finished self.old)) byte }
+        ensures { state_of self.new ≡ machine.step (machine.Known (bytes.now ++ TAIL.now)
+            (after_in Finished self.old)) byte }
     {
         let Some((first, rest)) = bytes.split_first() else {
             self.known(TAIL, After::Finished, byte);
@@ -1253,7 +1345,8 @@ fn is_exact(number: u64) -> bool
 
 /// The name that a node is, if it is one.
 fn variable(node: Node) -> Option<Name>
-    ensures { (ts : List Tree) (k : machine.Place) → machine.equals (expression (top (apply node ts))) k 62 ≡ parameter_of result k }
+    ensures { (ts : List Tree) (k : machine.Place) → machine.equals (expression (top (apply node ts))) k 62
+        ≡ parameter_of result k }
 {
     match node {
         Node::Var(name) => Some(name),

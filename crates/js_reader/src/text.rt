@@ -2,7 +2,7 @@
 
 ghost use Rattle.std.specs.Prelude.{◌≡◌, ◌≤◌, ◌<◌, ◌+◌, IfErr, IfOk, length};
 ghost use Rattle.js_tree.specs.Faults.{next_place, place_behind};
-ghost use Rattle.js_tree.specs.Postorder.{build, top};
+ghost use Rattle.js_tree.specs.Postorder.{trees_of, top};
 ghost use Rattle.js_reader.specs.Read.{IsNoText, IsTreeOf, place_view};
 
 use crate::reader::Reader;
@@ -48,7 +48,7 @@ pub fn place_behind(bytes: &[u8]) -> Pos
 /// Reads the text of a program.
 pub fn read_text(alloc: Global, bytes: &[u8]) -> Result<Trees, Refusal>
     requires { length bytes.now ≤ 67108864 }
-    ensures read { IfOk result (λ trees. IsTreeOf (top (build trees)) bytes.now) }
+    ensures read { IfOk result (λ trees. IsTreeOf (top (trees_of trees)) bytes.now) }
     ensures refused { IfErr result (λ refusal. IsNoText refusal bytes.now) }
 {
     let mut reader = Reader::new(alloc)?;

@@ -96,7 +96,8 @@ fn begins(word: &[u8], bytes: &[u8]) -> bool
 
 /// The word that these bytes are, if they are one.
 pub fn find_word(bytes: &[u8]) -> Option<Word>
-    ensures { (none : machine.State) (found : machine.Word → machine.State) → machine.find_word machine.words bytes.now none found ≡ found_word result none found }
+    ensures { (none : machine.State) (found : machine.Word → machine.State)
+        → machine.find_word machine.words bytes.now none found ≡ found_word result none found }
 {
     for (text, word) in &WORDS {
         if is(text, bytes) {

@@ -5,9 +5,11 @@ use Rattle.std.proofs.lemmas.Bool.{le-leb, lt-leb}
 use Rattle.js_tree.specs.Tree.{Name, same_name}
 use Rattle.js_tree.specs.Subset.{Use, Fixed, Changing, Beyond, may_read, may_assign, Scope, use_of, nested, within}
 use Rattle.js_scope.specs.Uses.{Uses, Nothing, Reads, Assigns, Both, Block, Function}
-use Rattle.js_scope.specs.Walk.{Bound, with_names, is_found, is_own, after_read, after_assigned, first_bound, is_settled, after, is_fine}
+use Rattle.js_scope.specs.Walk.{Bound, with_names, is_found, is_own, after_read, after_assigned, first_bound}
+use Rattle.js_scope.specs.Walk.{is_settled, after, is_fine}
 use Rattle.js_scope.proofs.Names.{one_name, and_assoc, and-true, and-false}
-use Rattle.js_scope.proofs.Marks.{is_assigned, without, Marked, marked, unmarked, marks, length-marks, length-marked, longer, longer_bound, marked_names, marked_after, length-after}
+use Rattle.js_scope.proofs.Marks.{is_assigned, without, Marked, marked, unmarked, marks, length-marks, length-marked}
+use Rattle.js_scope.proofs.Marks.{longer, longer_bound, marked_names, marked_after, length-after}
 
 -- names that uses bind, in their scope
 abbrev pub with_scope : (Name → Bool) → List Name → Scope → Scope

@@ -3,9 +3,11 @@ use Rattle.std.proofs.Common.{◌≡◌, List, [], ◌∷◌, length, take, Bool
 use Rattle.std.specs.Prelude.{◌&&◌}
 use Rattle.js_tree.specs.Tree.{NoField, NoLine}
 use Rattle.js_tree.specs.declared.tree.Node.{Node}
-use Rattle.js_tree.specs.Postorder.{Tree, Expression, ItemsOf, MembersOf, StatementsOf, BlockOf, LinesOf, ProgramOf, Members, LinesBefore, members_then, lines_then, build, trees_at}
+use Rattle.js_tree.specs.Postorder.{Tree, Expression, ItemsOf, MembersOf, StatementsOf, BlockOf, LinesOf, ProgramOf}
+use Rattle.js_tree.specs.Postorder.{Members, LinesBefore, members_then, lines_then, trees_of, trees_at}
 use Rattle.js_scope.specs.Bound.{names_bound}
-use Rattle.js_scope.specs.Uses.{Uses, Nothing, Both, Block, fields_uses, lines_uses, line_names, members_uses, lines_before_uses, line_names_before}
+use Rattle.js_scope.specs.Uses.{Uses, Nothing, Both, Block, fields_uses, lines_uses, line_names, members_uses}
+use Rattle.js_scope.specs.Uses.{lines_before_uses, line_names_before}
 use Rattle.js_scope.specs.Walk.{with_names, after, is_fine, Step, Walk, Declare, Leave, ends_well}
 use Rattle.js_scope.specs.Parts.{program_of}
 use Rattle.js_scope.proofs.Names.{and-true}
@@ -31,8 +33,8 @@ take_all : {A : Type 0} (xs : List A) → take (length xs) xs ≡ xs
 take_all [] = refl
 take_all (x ∷ xs) = ap (λ ys. x ∷ ys) (take_all xs)
 
-pub whole : (nodes : List Node) → build nodes ≡ trees_at nodes (length nodes)
-whole nodes = ap build (sym (take_all nodes))
+pub whole : (nodes : List Node) → trees_of nodes ≡ trees_at nodes (length nodes)
+whole nodes = ap trees_of (sym (take_all nodes))
 
 pub program_walked : (ls : LinesBefore) (fs : Members) (flags main : Uses)
     → is_fine (Block (line_names (lines_then ls NoLine) []) (Both (fields_uses (members_then fs NoField) Nothing) (Both flags (Both main (lines_uses (lines_then ls NoLine) Nothing))))) 0 []

@@ -1,10 +1,16 @@
 -- Steps that do the same.
 use Rattle.std.proofs.Common.{◌≡◌, ℕ, List, [], ◌∷◌, length, false, refl, sym, ap, ◌∙◌}
 use Rattle.std.specs.Prelude.{◌&&◌}
-use Rattle.js_tree.specs.Tree.{Name, JsList, MoreJs, Fields, MoreField, Stmts, Const, Let, Assign, Return, If, While, Continue, Lines, MoreLine}
-use Rattle.js_tree.specs.Postorder.{Items, NoItem, Item, Members, NoMember, Member, Before, NoStatement, ConstThen, LetThen, AssignThen, LinesBefore, NoLineYet, LineThen, items_then, members_then, statements_then, lines_then}
-use Rattle.js_scope.specs.Uses.{Uses, Nothing, Assigns, Both, Block, Function, declared, uses, list_uses, fields_uses, block_uses, lines_uses, line_names, items_uses, members_uses, statements_uses, names_before, lines_before_uses, line_names_before}
-use Rattle.js_scope.specs.Walk.{State, Bound, with_names, first_bound, is_settled, after, is_fine, Step, Walk, Declare, Leave, ends_well}
+use Rattle.js_tree.specs.Tree.{Name, JsList, MoreJs, Fields, MoreField, Stmts, Const, Let, Assign, Return, If, While}
+use Rattle.js_tree.specs.Tree.{Continue, Lines, MoreLine}
+use Rattle.js_tree.specs.Postorder.{Items, NoItem, Item, Members, NoMember, Member, Before, NoStatement, ConstThen}
+use Rattle.js_tree.specs.Postorder.{LetThen, AssignThen, LinesBefore, NoLineYet, LineThen, items_then, members_then}
+use Rattle.js_tree.specs.Postorder.{statements_then, lines_then}
+use Rattle.js_scope.specs.Uses.{Uses, Nothing, Assigns, Both, Block, Function, declared, uses, list_uses, fields_uses}
+use Rattle.js_scope.specs.Uses.{block_uses, lines_uses, line_names, items_uses, members_uses, statements_uses}
+use Rattle.js_scope.specs.Uses.{names_before, lines_before_uses, line_names_before}
+use Rattle.js_scope.specs.Walk.{State, Bound, with_names, first_bound, is_settled, after, is_fine, Step, Walk, Declare}
+use Rattle.js_scope.specs.Walk.{Leave, ends_well}
 use Rattle.js_scope.proofs.Names.{and_assoc, and-true}
 
 -- one after the other

@@ -1,5 +1,6 @@
 -- What the index of names has after a change.
-use Rattle.std.proofs.Common.{◌≡◌, ℕ, List, Bool, true, false, Ordering, Less, Equal, Greater, Option, Some, refl, sym, ap, ◌∙◌, Bor, arith}
+use Rattle.std.proofs.Common.{◌≡◌, ℕ, List, Bool, true, false, Ordering, Less, Equal, Greater, Option, Some, refl, sym}
+use Rattle.std.proofs.Common.{ap, ◌∙◌, Bor, arith}
 use Rattle.std.specs.Prelude.{if◌then◌else◌, cond, ◌&&◌, unwrap_or, nat_eq}
 use Rattle.std.specs.Ordering.{is_eq, ordering_then, nat_cmp}
 use Rattle.std.specs.Cmp.Lexicographic.{slice_cmp}

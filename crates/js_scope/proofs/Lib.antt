@@ -1,9 +1,18 @@
-pub mod Names
-pub mod Marks
-pub mod Allowed
-pub mod Programs
-pub mod Indexes
-pub mod Bindings
-pub mod Ends
-pub mod Going
+-- the tasks for a program come to a good end exactly if its names are bound
 pub mod Beginning
+-- tasks that go on in the place of one
+pub mod Going
+-- steps that do the same
+pub mod Ends
+-- the names that are bound, as they are kept
+pub mod Bindings
+-- what the index of names has after a change
+pub mod Indexes
+-- the uses of a program are allowed exactly if its names are bound
+pub mod Programs
+-- a walk comes to a good end exactly if each use is allowed by what the names are in their scopes
+pub mod Allowed
+-- the marks of assignment that a walk leaves
+pub mod Marks
+-- the test of names tells whether they are one
+pub mod Names

@@ -1,10 +1,15 @@
 -- The uses of a program are allowed exactly if its names are bound.
 use Rattle.std.proofs.Common.{◌≡◌, List, [], ◌∷◌, Bool, true, false, refl, ap, sym, ◌∙◌}
 use Rattle.std.specs.Prelude.{◌&&◌, ◌||◌, not, if◌then◌else◌}
-use Rattle.js_tree.specs.Tree.{Name, same_name, Js, JInt, JBool, JText, JVar, JArrow, JBlock, JCall, JBinary, JConditional, JObject, JProperty, JList, JHelper, JsList, NoJs, MoreJs, Fields, NoField, MoreField, Stmts, Const, Let, Assign, Return, If, While, Continue, Lines, NoLine, MoreLine, Program}
+use Rattle.js_tree.specs.Tree.{Name, same_name, Js, JInt, JBool, JText, JVar, JArrow, JBlock, JCall, JBinary}
+use Rattle.js_tree.specs.Tree.{JConditional, JObject, JProperty, JList, JHelper, JsList, NoJs, MoreJs, Fields, NoField}
+use Rattle.js_tree.specs.Tree.{MoreField, Stmts, Const, Let, Assign, Return, If, While, Continue, Lines, NoLine}
+use Rattle.js_tree.specs.Tree.{MoreLine, Program}
 use Rattle.js_tree.specs.Tree.{declares}
-use Rattle.js_tree.specs.Subset.{assigns, Fixed, may_assign, Scope, use_of, within, bound_in, with_declared, is_bound, list_bound, fields_bound, are_bound, lines_scope, lines_bound, is_program_bound}
-use Rattle.js_scope.specs.Uses.{Uses, Nothing, Assigns, Both, Block, declared, uses, list_uses, fields_uses, block_uses, lines_uses, line_names, program_uses}
+use Rattle.js_tree.specs.Subset.{assigns, Fixed, may_assign, Scope, use_of, within, bound_in, with_declared, is_bound}
+use Rattle.js_tree.specs.Subset.{list_bound, fields_bound, are_bound, lines_scope, lines_bound, is_program_bound}
+use Rattle.js_scope.specs.Uses.{Uses, Nothing, Assigns, Both, Block, declared, uses, list_uses, fields_uses, block_uses}
+use Rattle.js_scope.specs.Uses.{lines_uses, line_names, program_uses}
 use Rattle.js_scope.specs.Walk.{is_fine}
 use Rattle.js_scope.proofs.Names.{all, and-true, or-false}
 use Rattle.js_scope.proofs.Marks.{among, is_assigned}

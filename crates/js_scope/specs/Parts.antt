@@ -3,11 +3,14 @@ use Rattle.std.specs.Prelude.{List, [], ◌∷◌, Bool, true, false, Option, So
 use Rattle.std.specs.Borrow.{Bor}
 use Rattle.js_tree.specs.declared.tree.Name as name
 use Rattle.js_tree.specs.Tree.{Name, NoJs, NoField, NoLine}
-use Rattle.js_tree.specs.Postorder.{Tree, ProgramOf, expression, items, members, statements, block, lines, top, below, name_view, items_then, members_then, statements_then, lines_then}
+use Rattle.js_tree.specs.Postorder.{Tree, ProgramOf, expression, items, members, statements, block, lines, top, below}
+use Rattle.js_tree.specs.Postorder.{name_view, items_then, members_then, statements_then, lines_then}
 use Rattle.js_scope.specs.declared.parts.Form as form
 use Rattle.js_scope.specs.declared.parts.Statement as statement
 use Rattle.js_scope.specs.declared.parts.Ending as ending
-use Rattle.js_scope.specs.Uses.{Uses, Nothing, Reads, Assigns, Both, Block, Function, declared, uses, list_uses, fields_uses, block_uses, items_uses, members_uses, statements_uses, names_before, lines_before_uses, line_names_before, lines_uses, line_names, program_uses}
+use Rattle.js_scope.specs.Uses.{Uses, Nothing, Reads, Assigns, Both, Block, Function, declared, uses, list_uses}
+use Rattle.js_scope.specs.Uses.{fields_uses, block_uses, items_uses, members_uses, statements_uses, names_before}
+use Rattle.js_scope.specs.Uses.{lines_before_uses, line_names_before, lines_uses, line_names, program_uses}
 
 -- of an expression, with the trees of its parts
 abbrev pub uses_by : form.Form → List Tree → Uses

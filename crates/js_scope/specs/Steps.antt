@@ -3,7 +3,8 @@ use Rattle.std.specs.Prelude.{◌≡◌, ℕ, ◌+◌, ◌*◌, ◌^◌, ◌<◌
 use Rattle.js_tree.specs.declared.tree.Node.{Node}
 use Rattle.js_tree.specs.Postorder.{expression, items, members, statements, block, lines, top, trees_at}
 use Rattle.js_scope.specs.declared.tasks.Task as task
-use Rattle.js_scope.specs.Uses.{Nothing, Block, declared, uses, items_uses, members_uses, statements_uses, names_before, block_uses, lines_before_uses, line_names_before}
+use Rattle.js_scope.specs.Uses.{Nothing, Block, declared, uses, items_uses, members_uses, statements_uses, names_before}
+use Rattle.js_scope.specs.Uses.{block_uses, lines_before_uses, line_names_before}
 use Rattle.js_scope.specs.Walk.{State, Step, Walk, Declare, Leave, ends_well}
 
 -- the step of a task

@@ -1,8 +1,11 @@
 -- What trees do with names, and nothing else of them: the names that they read, those that they assign, and the blocks and functions that declare
 -- names. The last part of a tree comes first, as its nodes are met from the last one on.
 use Rattle.std.specs.Prelude.{List, [], ◌∷◌}
-use Rattle.js_tree.specs.Tree.{Name, Js, JInt, JBool, JText, JVar, JArrow, JBlock, JCall, JBinary, JConditional, JObject, JProperty, JList, JHelper, JsList, NoJs, MoreJs, Fields, NoField, MoreField, Stmts, Const, Let, Assign, Return, If, While, Continue, Lines, NoLine, MoreLine, Program}
-use Rattle.js_tree.specs.Postorder.{Items, NoItem, Item, Members, NoMember, Member, Before, NoStatement, ConstThen, LetThen, AssignThen, LinesBefore, NoLineYet, LineThen}
+use Rattle.js_tree.specs.Tree.{Name, Js, JInt, JBool, JText, JVar, JArrow, JBlock, JCall, JBinary, JConditional}
+use Rattle.js_tree.specs.Tree.{JObject, JProperty, JList, JHelper, JsList, NoJs, MoreJs, Fields, NoField, MoreField}
+use Rattle.js_tree.specs.Tree.{Stmts, Const, Let, Assign, Return, If, While, Continue, Lines, NoLine, MoreLine, Program}
+use Rattle.js_tree.specs.Postorder.{Items, NoItem, Item, Members, NoMember, Member, Before, NoStatement, ConstThen}
+use Rattle.js_tree.specs.Postorder.{LetThen, AssignThen, LinesBefore, NoLineYet, LineThen}
 
 pub data Uses : Type 0 where
   Nothing : Uses

@@ -2,7 +2,8 @@
 
 ghost use Rattle.std.specs.Prelude.{◌≡◌, List, []};
 ghost use Rattle.js_tree.specs.Postorder.{Tree, apply, expression, items, members, statements, block, lines, top};
-ghost use Rattle.js_scope.specs.Uses.{Nothing, declared, uses, items_uses, members_uses, statements_uses, names_before, block_uses, lines_before_uses, line_names_before};
+ghost use Rattle.js_scope.specs.Uses.{Nothing, declared, uses, items_uses, members_uses, statements_uses, names_before};
+ghost use Rattle.js_scope.specs.Uses.{block_uses, lines_before_uses, line_names_before};
 
 use js_tree::tree::{Name, Node};
 
@@ -52,7 +53,8 @@ pub(crate) enum Ending {
     Ended,
 }
 
-ghost use Rattle.js_scope.specs.Parts.{uses_by, items_by, members_by, statements_by, names_by, block_by, declared_by, lines_by, line_names_by, program_of, program_by};
+ghost use Rattle.js_scope.specs.Parts.{uses_by, items_by, members_by, statements_by, names_by, block_by, declared_by};
+ghost use Rattle.js_scope.specs.Parts.{lines_by, line_names_by, program_of, program_by};
 
 /// What a node does as an expression.
 pub(crate) fn form_of(node: &Node) -> Form<'_>
@@ -165,8 +167,10 @@ pub(crate) fn is_field(node: &Node) -> bool
 
 /// What a node does as a statement after others.
 pub(crate) fn statement_of(node: &Node) -> Statement<'_>
-    ensures uses { (trees : List Tree) → statements_uses (statements (top (apply node.now trees))) ≡ statements_by result trees }
-    ensures names { (trees : List Tree) → names_before (statements (top (apply node.now trees))) [] ≡ names_by result trees }
+    ensures uses { (trees : List Tree) → statements_uses (statements (top (apply node.now trees)))
+        ≡ statements_by result trees }
+    ensures names { (trees : List Tree) → names_before (statements (top (apply node.now trees))) []
+        ≡ names_by result trees }
 {
     match node {
         Node::Const(name) | Node::Let(name) => Statement::Declares(name),
@@ -202,7 +206,8 @@ pub(crate) fn statement_of(node: &Node) -> Statement<'_>
 
 /// What a node does as a block.
 pub(crate) fn ending_of(node: &Node) -> Ending
-    ensures uses { (trees : List Tree) → block_uses (block (top (apply node.now trees))) Nothing ≡ block_by result trees }
+    ensures uses { (trees : List Tree) → block_uses (block (top (apply node.now trees))) Nothing
+        ≡ block_by result trees }
     ensures names { (trees : List Tree) → declared (block (top (apply node.now trees))) [] ≡ declared_by result trees }
 {
     match node {
@@ -240,8 +245,10 @@ pub(crate) fn ending_of(node: &Node) -> Ending
 
 /// The name of a line that the node adds to others.
 pub(crate) fn line_name(node: &Node) -> Option<&Name>
-    ensures uses { (trees : List Tree) → lines_before_uses (lines (top (apply node.now trees))) ≡ lines_by result trees }
-    ensures names { (trees : List Tree) → line_names_before (lines (top (apply node.now trees))) [] ≡ line_names_by result trees }
+    ensures uses { (trees : List Tree) → lines_before_uses (lines (top (apply node.now trees)))
+        ≡ lines_by result trees }
+    ensures names { (trees : List Tree) → line_names_before (lines (top (apply node.now trees))) []
+        ≡ line_names_by result trees }
 {
     match node {
         Node::Line(name) => Some(name),

@@ -2,7 +2,8 @@
 
 ghost use Rattle.std.specs.Prelude.{◌≡◌, ◌-◌, ℕ, List, [], ◌∷◌, length, true, not, ◌&&◌, OnOk, OnErr, IfOk};
 ghost use Rattle.js_tree.specs.Postorder.{name_view};
-ghost use Rattle.js_scope.specs.Walk.{with_names, is_found, is_own, after_read, after_assigned, first_bound, is_settled};
+ghost use Rattle.js_scope.specs.Walk.{with_names, is_found, is_own, after_read, after_assigned, first_bound};
+ghost use Rattle.js_scope.specs.Walk.{is_settled};
 ghost use Rattle.js_scope.specs.Scopes.{bound_on, IsIndexed, innermost_settled, outer};
 
 use crate::index::Index;
@@ -86,7 +87,11 @@ impl<'a> Scopes<'a> {
 
     /// Binds a name.
     pub(crate) fn declare(&mut self, name: &'a Name) -> Result<(), AllocError>
-        ensures { OnOk result (self.new ≡ record { start = self.old.start; bound = with_names (name_view name.now ∷ []) self.old.bound }) }
+        ensures { OnOk result (self.new ≡ record {
+          start = self.old.start;
+          bound = with_names
+              (name_view name.now ∷ []) self.old.bound;
+        }) }
     {
         declare(&mut self.bindings, &mut self.marks, &mut self.index, name)
     }
@@ -94,7 +99,11 @@ impl<'a> Scopes<'a> {
     /// A name is read. The answer is whether it is bound.
     pub(crate) fn read(&mut self, name: &'a Name) -> bool
         ensures found { result ≡ is_found (name_view name.now) self.old.bound }
-        ensures after { self.new ≡ record { start = self.old.start; bound = after_read (name_view name.now) self.old.start self.old.bound } }
+        ensures after { self.new ≡ record {
+          start = self.old.start;
+          bound = after_read
+              (name_view name.now) self.old.start self.old.bound;
+        } }
     {
         read(
             &self.bindings,
@@ -108,7 +117,11 @@ impl<'a> Scopes<'a> {
     /// A name is assigned. The answer is whether the function at hand binds it.
     pub(crate) fn assign(&mut self, name: &'a Name) -> bool
         ensures own { result ≡ is_own (name_view name.now) self.old.start self.old.bound }
-        ensures after { self.new ≡ record { start = self.old.start; bound = after_assigned (name_view name.now) self.old.start self.old.bound } }
+        ensures after { self.new ≡ record {
+          start = self.old.start;
+          bound = after_assigned
+              (name_view name.now) self.old.start self.old.bound;
+        } }
     {
         assign(
             &self.bindings,
@@ -123,7 +136,8 @@ impl<'a> Scopes<'a> {
     /// since is not both assigned and met in a nested function; if one is, not all may be unbound.
     pub(crate) fn leave(&mut self, bound: usize, start: usize) -> Result<bool, AllocError>
         ensures settled { IfOk result (λ settled. settled ≡ is_settled bound self.old.bound) }
-        ensures after { IfOk result (λ settled. settled ≡ true → self.new ≡ record { start = start; bound = first_bound bound self.old.bound }) }
+        ensures after { IfOk result (λ settled. settled ≡ true → self.new
+            ≡ record { start = start; bound = first_bound bound self.old.bound }) }
     {
         self.start = start;
         leave(&mut self.bindings, &mut self.marks, &mut self.index, bound)
@@ -145,8 +159,10 @@ fn declare<'a>(
     name: &'a Name,
 ) -> Result<(), AllocError>
     requires { IsIndexed bindings.old.items marks.old.items index.old }
-    ensures bound { OnOk result (bound_on bindings.new.items marks.new.items [] ≡ with_names (name_view name.now ∷ []) (bound_on bindings.old.items marks.old.items [])) }
-    ensures err { OnErr result (bound_on bindings.new.items marks.new.items [] ≡ bound_on bindings.old.items marks.old.items []) }
+    ensures bound { OnOk result (bound_on bindings.new.items marks.new.items []
+        ≡ with_names (name_view name.now ∷ []) (bound_on bindings.old.items marks.old.items [])) }
+    ensures err { OnErr result (bound_on bindings.new.items marks.new.items []
+        ≡ bound_on bindings.old.items marks.old.items []) }
     ensures indexed { IsIndexed bindings.new.items marks.new.items index.new }
 {
     bindings.reserve(1)?;
@@ -171,7 +187,8 @@ fn read<'a>(
 ) -> bool
     requires { IsIndexed bindings.now.items marks.old.items index.now }
     ensures found { result ≡ is_found (name_view name.now) (bound_on bindings.now.items marks.old.items []) }
-    ensures after { bound_on bindings.now.items marks.new.items [] ≡ after_read (name_view name.now) start (bound_on bindings.now.items marks.old.items []) }
+    ensures after { bound_on bindings.now.items marks.new.items []
+        ≡ after_read (name_view name.now) start (bound_on bindings.now.items marks.old.items []) }
     ensures indexed { IsIndexed bindings.now.items marks.new.items index.now }
 {
     let place = index.place(name);
@@ -194,7 +211,8 @@ fn assign<'a>(
 ) -> bool
     requires { IsIndexed bindings.now.items marks.old.items index.now }
     ensures own { result ≡ is_own (name_view name.now) start (bound_on bindings.now.items marks.old.items []) }
-    ensures after { bound_on bindings.now.items marks.new.items [] ≡ after_assigned (name_view name.now) start (bound_on bindings.now.items marks.old.items []) }
+    ensures after { bound_on bindings.now.items marks.new.items []
+        ≡ after_assigned (name_view name.now) start (bound_on bindings.now.items marks.old.items []) }
     ensures indexed { IsIndexed bindings.now.items marks.new.items index.now }
 {
     let place = index.place(name);
@@ -212,8 +230,10 @@ fn unbind<'a>(
     index: &mut Index<'a>,
 ) -> Result<bool, AllocError>
     requires { IsIndexed bindings.old.items marks.old.items index.old }
-    ensures settled { IfOk result (λ settled. settled ≡ innermost_settled (bound_on bindings.old.items marks.old.items [])) }
-    ensures after { OnOk result (bound_on bindings.new.items marks.new.items [] ≡ outer (bound_on bindings.old.items marks.old.items [])) }
+    ensures settled { IfOk result (λ settled. settled ≡ innermost_settled
+        (bound_on bindings.old.items marks.old.items [])) }
+    ensures after { OnOk result (bound_on bindings.new.items marks.new.items []
+        ≡ outer (bound_on bindings.old.items marks.old.items [])) }
     ensures fewer { OnOk result (length bindings.new.items ≡ length bindings.old.items - 1) }
     ensures indexed { IsIndexed bindings.new.items marks.new.items index.new }
 {
@@ -238,8 +258,10 @@ fn leave<'a>(
     bound: usize,
 ) -> Result<bool, AllocError>
     requires { IsIndexed bindings.old.items marks.old.items index.old }
-    ensures settled { IfOk result (λ settled. settled ≡ is_settled bound (bound_on bindings.old.items marks.old.items [])) }
-    ensures after { IfOk result (λ settled. settled ≡ true → bound_on bindings.new.items marks.new.items [] ≡ first_bound bound (bound_on bindings.old.items marks.old.items [])) }
+    ensures settled { IfOk result (λ settled. settled ≡ is_settled bound
+        (bound_on bindings.old.items marks.old.items [])) }
+    ensures after { IfOk result (λ settled. settled ≡ true → bound_on bindings.new.items marks.new.items []
+        ≡ first_bound bound (bound_on bindings.old.items marks.old.items [])) }
     ensures indexed { IsIndexed bindings.new.items marks.new.items index.new }
 {
     while bound < bindings.len() {

@@ -1,8 +1,10 @@
 //! The walk over trees.
 
 ghost use Rattle.std.specs.Prelude.{◌≡◌, ◌*◌, ◌+◌, ◌≤◌, ℕ, [], ◌∷◌, length, ◌&&◌, IfOk, OnOk};
-ghost use Rattle.js_tree.specs.Postorder.{expression, items, members, statements, block, lines, top, build, trees_at};
-ghost use Rattle.js_scope.specs.Uses.{Nothing, Block, declared, uses, items_uses, members_uses, statements_uses, names_before, block_uses, lines_before_uses, line_names_before};
+ghost use Rattle.js_tree.specs.Postorder.{expression, items, members, statements, block, lines, top, trees_of};
+ghost use Rattle.js_tree.specs.Postorder.{trees_at};
+ghost use Rattle.js_scope.specs.Uses.{Nothing, Block, declared, uses, items_uses, members_uses, statements_uses};
+ghost use Rattle.js_scope.specs.Uses.{names_before, block_uses, lines_before_uses, line_names_before};
 ghost use Rattle.js_scope.specs.Walk.{Walk, Declare, ends_well};
 ghost use Rattle.js_scope.specs.Parts.{inner};
 ghost use Rattle.js_scope.specs.Bound.{names_bound};
@@ -25,7 +27,8 @@ fn visit_expression<'a>(
     tasks: &mut Tasks,
 ) -> Result<bool, AllocError>
     requires { place ≤ length trees.now }
-    ensures { IfOk result (λ fine. GoesOn trees.now (Walk (uses (expression (top (trees_at trees.now place))))) (2 * place) tasks.old scopes.old fine tasks.new scopes.new) }
+    ensures { IfOk result (λ fine. GoesOn trees.now (Walk (uses (expression (top (trees_at trees.now place)))))
+        (2 * place) tasks.old scopes.old fine tasks.new scopes.new) }
 {
     let Some(node) = trees.node(place) else {
         return Ok(true);
@@ -90,7 +93,8 @@ fn visit_items<'a>(
     tasks: &mut Tasks,
 ) -> Result<bool, AllocError>
     requires { place ≤ length trees.now }
-    ensures { IfOk result (λ fine. GoesOn trees.now (Walk (items_uses (items (top (trees_at trees.now place))))) (2 * place) tasks.old scopes.old fine tasks.new scopes.new) }
+    ensures { IfOk result (λ fine. GoesOn trees.now (Walk (items_uses (items (top (trees_at trees.now place)))))
+        (2 * place) tasks.old scopes.old fine tasks.new scopes.new) }
 {
     let Some(node) = trees.node(place) else {
         return Ok(true);
@@ -112,7 +116,8 @@ fn visit_members<'a>(
     tasks: &mut Tasks,
 ) -> Result<bool, AllocError>
     requires { place ≤ length trees.now }
-    ensures { IfOk result (λ fine. GoesOn trees.now (Walk (members_uses (members (top (trees_at trees.now place))))) (2 * place) tasks.old scopes.old fine tasks.new scopes.new) }
+    ensures { IfOk result (λ fine. GoesOn trees.now (Walk (members_uses (members (top (trees_at trees.now place)))))
+        (2 * place) tasks.old scopes.old fine tasks.new scopes.new) }
 {
     let Some(node) = trees.node(place) else {
         return Ok(true);
@@ -134,7 +139,8 @@ fn visit_statements<'a>(
     tasks: &mut Tasks,
 ) -> Result<bool, AllocError>
     requires { place ≤ length trees.now }
-    ensures { IfOk result (λ fine. GoesOn trees.now (Walk (statements_uses (statements (top (trees_at trees.now place))))) (2 * place) tasks.old scopes.old fine tasks.new scopes.new) }
+    ensures { IfOk result (λ fine. GoesOn trees.now (Walk (statements_uses
+        (statements (top (trees_at trees.now place))))) (2 * place) tasks.old scopes.old fine tasks.new scopes.new) }
 {
     let Some(node) = trees.node(place) else {
         return Ok(true);
@@ -163,7 +169,8 @@ fn visit_block<'a>(
     tasks: &mut Tasks,
 ) -> Result<bool, AllocError>
     requires { place ≤ length trees.now }
-    ensures { IfOk result (λ fine. GoesOn trees.now (Walk (block_uses (block (top (trees_at trees.now place))) Nothing)) (2 * place) tasks.old scopes.old fine tasks.new scopes.new) }
+    ensures { IfOk result (λ fine. GoesOn trees.now (Walk (block_uses
+        (block (top (trees_at trees.now place))) Nothing)) (2 * place) tasks.old scopes.old fine tasks.new scopes.new) }
 {
     let Some(node) = trees.node(place) else {
         return Ok(true);
@@ -202,7 +209,8 @@ fn visit_inner<'a>(
     tasks: &mut Tasks,
 ) -> Result<bool, AllocError>
     requires { place ≤ length trees.now }
-    ensures { IfOk result (λ fine. GoesOn trees.now (Walk (inner (top (trees_at trees.now place)))) (2 * place + 1) tasks.old scopes.old fine tasks.new scopes.new) }
+    ensures { IfOk result (λ fine. GoesOn trees.now (Walk (inner (top (trees_at trees.now place))))
+        (2 * place + 1) tasks.old scopes.old fine tasks.new scopes.new) }
 {
     tasks.push(Task::Leave {
         bound: scopes.len(),
@@ -221,7 +229,8 @@ fn visit_lines<'a>(
     tasks: &mut Tasks,
 ) -> Result<bool, AllocError>
     requires { place ≤ length trees.now }
-    ensures { IfOk result (λ fine. GoesOn trees.now (Walk (lines_before_uses (lines (top (trees_at trees.now place))))) (2 * place) tasks.old scopes.old fine tasks.new scopes.new) }
+    ensures { IfOk result (λ fine. GoesOn trees.now (Walk (lines_before_uses
+        (lines (top (trees_at trees.now place))))) (2 * place) tasks.old scopes.old fine tasks.new scopes.new) }
 {
     let Some(node) = trees.node(place) else {
         return Ok(true);
@@ -245,7 +254,8 @@ fn bind_block<'a>(
     tasks: &mut Tasks,
 ) -> Result<bool, AllocError>
     requires { place ≤ length trees.now }
-    ensures { IfOk result (λ fine. GoesOn trees.now (Declare (declared (block (top (trees_at trees.now place))) [])) (2 * place) tasks.old scopes.old fine tasks.new scopes.new) }
+    ensures { IfOk result (λ fine. GoesOn trees.now (Declare (declared (block (top (trees_at trees.now place))) []))
+        (2 * place) tasks.old scopes.old fine tasks.new scopes.new) }
 {
     let Some(node) = trees.node(place) else {
         return Ok(true);
@@ -272,7 +282,8 @@ fn bind_statements<'a>(
     tasks: &mut Tasks,
 ) -> Result<bool, AllocError>
     requires { place ≤ length trees.now }
-    ensures { IfOk result (λ fine. GoesOn trees.now (Declare (names_before (statements (top (trees_at trees.now place))) [])) (2 * place) tasks.old scopes.old fine tasks.new scopes.new) }
+    ensures { IfOk result (λ fine. GoesOn trees.now (Declare (names_before
+        (statements (top (trees_at trees.now place))) [])) (2 * place) tasks.old scopes.old fine tasks.new scopes.new) }
 {
     let Some(node) = trees.node(place) else {
         return Ok(true);
@@ -300,7 +311,8 @@ fn bind_lines<'a>(
     tasks: &mut Tasks,
 ) -> Result<bool, AllocError>
     requires { place ≤ length trees.now }
-    ensures { IfOk result (λ fine. GoesOn trees.now (Declare (line_names_before (lines (top (trees_at trees.now place))) [])) (2 * place) tasks.old scopes.old fine tasks.new scopes.new) }
+    ensures { IfOk result (λ fine. GoesOn trees.now (Declare (line_names_before
+        (lines (top (trees_at trees.now place))) [])) (2 * place) tasks.old scopes.old fine tasks.new scopes.new) }
 {
     let Some(node) = trees.node(place) else {
         return Ok(true);
@@ -324,7 +336,8 @@ fn do_task<'a>(
     tasks: &mut Tasks,
 ) -> Result<bool, AllocError>
     requires { reach task ≤ 2 * length trees.now + 1 }
-    ensures { IfOk result (λ fine. GoesOn trees.now (step_of trees.now task) (reach task) tasks.old scopes.old fine tasks.new scopes.new) }
+    ensures { IfOk result (λ fine. GoesOn trees.now (step_of trees.now task)
+        (reach task) tasks.old scopes.old fine tasks.new scopes.new) }
 {
     match task {
         Task::Expression(place) => visit_expression(trees, place, scopes, tasks),
@@ -361,7 +374,8 @@ pub(crate) fn run<'a>(
 /// The tasks for the program that the last tree is. The answer is whether it is one.
 pub(crate) fn begin(trees: &Trees, tasks: &mut Tasks) -> Result<bool, AllocError>
     requires { tasks.old ≡ [] }
-    ensures ends { IfOk result (λ fine. names_bound (top (build trees.now)) ≡ (fine && ends_well (steps_of trees.now tasks.new) 0 [])) }
+    ensures ends { IfOk result (λ fine. names_bound (top (trees_of trees.now))
+        ≡ (fine && ends_well (steps_of trees.now tasks.new) 0 [])) }
     ensures within { OnOk result (AreWithin (length trees.now) tasks.new) }
 {
     let Some(node) = trees.node(trees.len()) else {

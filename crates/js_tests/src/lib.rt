@@ -2,21 +2,9 @@
 #![tactic(auto)]
 
 #[cfg(test)]
-mod arithmetic;
-#[cfg(test)]
 mod code;
 #[cfg(test)]
-mod codecs;
-#[cfg(test)]
-mod compare;
-#[cfg(test)]
-mod helpers;
-#[cfg(test)]
-mod host;
-#[cfg(test)]
 mod json_texts;
-#[cfg(test)]
-mod machine;
 #[cfg(test)]
 mod outputs;
 #[cfg(test)]

@@ -1,15 +1,22 @@
 -- The text of a program is read to its end, as that program.
-use Rattle.std.proofs.Common.{◌≡◌, ℕ, zero, suc, ◌+◌, ◌-◌, ◌*◌, ◌/◌, ◌%◌, ◌<◌, ◌≤◌, ◌^◌, ℤ, pos, negsuc, List, [], ◌∷◌, ◌++◌, Bool, true, false, not, ◌&&◌, ◌||◌, nat_eq, nat_le, nat_lt, refl, ap, sym, ◌∙◌, arith, codes, decimal, append_assoc, append-nil}
+use Rattle.std.proofs.Common.{◌≡◌, ℕ, zero, suc, ◌+◌, ◌-◌, ◌*◌, ◌/◌, ◌%◌, ◌<◌, ◌≤◌, ◌^◌, ℤ, pos, negsuc, List, [], ◌∷◌}
+use Rattle.std.proofs.Common.{◌++◌, Bool, true, false, not, ◌&&◌, ◌||◌, nat_eq, nat_le, nat_lt, refl, ap, sym, ◌∙◌}
+use Rattle.std.proofs.Common.{arith, codes, decimal, append_assoc, append-nil}
 use Rattle.std.proofs.lemmas.Bool.Decides.{nat_tests}
 use Rattle.std.proofs.lemmas.Fmt.{decimal_digit, decimal_step}
 use Rattle.std.specs.List.{list_all}
 use Rattle.js_tree.specs.Tree.{Name, Top, Local, Made, JInt}
-use Rattle.js_tree.specs.Text.{int_text, name_text, name_unit, name_units, unit_text, units_text, hex_digit, hex4, is_word_char}
+use Rattle.js_tree.specs.Text.{int_text, name_text, name_unit, name_units, unit_text, units_text, hex_digit, hex4}
+use Rattle.js_tree.specs.Text.{is_word_char}
 use Rattle.wire_value.specs.Exact.{is_exact}
 use Rattle.js_tree.specs.Subset.{is_upper, is_letter, is_unit, is_name_unit, is_word, is_module, is_name}
-use Rattle.js_tree.specs.NameReader.{Owner, Own, Of, Begun, OneDollar, TwoDollars, Numbered, NameWord, Dollar, Digits, NoName, begin_name, name_step, name_of, Found, Not, Name_is, is_run, is_digit, is_hex_digit, hex_value, greatest, begins_upper, join}
+use Rattle.js_tree.specs.NameReader.{Owner, Own, Of, Begun, OneDollar, TwoDollars, Numbered, NameWord, Dollar, Digits}
+use Rattle.js_tree.specs.NameReader.{NoName, begin_name, name_step, name_of, Found, Not, Name_is, is_run, is_digit}
+use Rattle.js_tree.specs.NameReader.{is_hex_digit, hex_value, greatest, begins_upper, join}
 use Rattle.js_tree.proofs.NameFronts.{and_true, same, as_it_is, letter_in_word, upper_in_word, past_word}
-use Rattle.js_tree.specs.Automaton.{Place, TextAt, NameAt, State, Want, Have, InName, InInt, Minus_seen, InNegative, InText, InDigits, name_at, in_int, want, have, minus, is_plain, next_digit, behind_text, behind_name, step, run}
+use Rattle.js_tree.specs.Automaton.{Place, TextAt, NameAt, State, Want, Have, InName, InInt, Minus_seen, InNegative}
+use Rattle.js_tree.specs.Automaton.{InText, InDigits, name_at, in_int, want, have, minus, is_plain, next_digit}
+use Rattle.js_tree.specs.Automaton.{behind_text, behind_name, step, run}
 
 -- the text begins with a character that ends a word
 abbrev pub stops : List ℕ → Bool

@@ -1,15 +1,29 @@
 -- The text of an expression, of statements and of a program is read to its end, as that.
-use Rattle.std.proofs.Common.{◌≡◌, ℕ, List, [], ◌∷◌, ◌++◌, true, false, not, nat_eq, refl, ap, sym, ◌∙◌, arith, codes, append_assoc, append-nil}
+use Rattle.std.proofs.Common.{◌≡◌, ℕ, List, [], ◌∷◌, ◌++◌, true, false, not, nat_eq, refl, ap, sym, ◌∙◌, arith, codes}
+use Rattle.std.proofs.Common.{append_assoc, append-nil}
 use Rattle.std.proofs.lemmas.Bool.Decides.{nat_tests}
 use Rattle.std.specs.List.{list_all}
 use Rattle.js_tree.specs.declared.runtime.TheConstants.{HEAD, TAIL}
 use Rattle.js_tree.specs.Tree as js
-use Rattle.js_tree.specs.Tree.{Name, Operator, Plus, Minus, Times, StrictEquals, And, Or, Helper, Js, JInt, JBool, JText, JVar, JArrow, JBlock, JCall, JBinary, JConditional, JObject, JProperty, JList, JHelper, JsList, NoJs, MoreJs, Fields, NoField, MoreField, Stmts, Const, Let, Assign, Return, If, While, Continue, Lines, NoLine, MoreLine, Program}
-use Rattle.js_tree.specs.Text.{js_text, list_text, more_text, fields_text, more_fields_text, stmts_text, name_text, units_text, operator_text, helper_text, lines_text, outs_fields, main_text, JsText}
-use Rattle.js_tree.specs.Subset.{is_unit, is_name, is_spelled, list_spelled, fields_spelled, are_spelled, lines_spelled, is_program_spelled}
+use Rattle.js_tree.specs.Tree.{Name, Operator, Plus, Minus, Times, StrictEquals, And, Or, Helper, Js, JInt, JBool}
+use Rattle.js_tree.specs.Tree.{JText, JVar, JArrow, JBlock, JCall, JBinary, JConditional, JObject, JProperty, JList}
+use Rattle.js_tree.specs.Tree.{JHelper, JsList, NoJs, MoreJs, Fields, NoField, MoreField, Stmts, Const, Let, Assign}
+use Rattle.js_tree.specs.Tree.{Return, If, While, Continue, Lines, NoLine, MoreLine, Program}
+use Rattle.js_tree.specs.Text.{js_text, list_text, more_text, fields_text, more_fields_text, stmts_text, name_text}
+use Rattle.js_tree.specs.Text.{units_text, operator_text, helper_text, lines_text, outs_fields, main_text, JsText}
+use Rattle.js_tree.specs.Subset.{is_unit, is_name, is_spelled, list_spelled, fields_spelled, are_spelled, lines_spelled}
+use Rattle.js_tree.specs.Subset.{is_program_spelled}
 use Rattle.js_tree.specs.NameReader.{is_run}
 use Rattle.js_tree.proofs.NameFronts.{and_true}
-use Rattle.js_tree.specs.Automaton.{Items, NoItem, Item, Members, NoMember, Member, Before, NoStatement, ConstThen, LetThen, AssignThen, LinesBefore, NoLineYet, LineThen, items_then, members_then, statements_then, lines_then, Front, Place, ArgumentOf, FirstIn, RightOf, ThenOf, ElseOf, FieldIn, ListIn, GivenTo, ConstIn, LetIn, AssignIn, ReturnIn, TestIn, LineIn, MainIn, FlagsIn, PortIn, Block, BodyOf, CalledIn, ThenIn, ElseIn, LoopIn, Value, Ports, Literal, Key, PropertyOf, ModuleIn, OutIn, Variable, ConstAt, LetAt, AssignAt, LineAt, State, Want, Have, WantName, WantField, WantStatement, WantLine, WantLineName, WantOut, HaveOut, Known, Finished, known, close_block, program_of, reversed_onto, behind_text, step, run, start}
+use Rattle.js_tree.specs.Automaton.{Items, NoItem, Item, Members, NoMember, Member, Before, NoStatement, ConstThen}
+use Rattle.js_tree.specs.Automaton.{LetThen, AssignThen, LinesBefore, NoLineYet, LineThen, items_then, members_then}
+use Rattle.js_tree.specs.Automaton.{statements_then, lines_then, Front, Place, ArgumentOf, FirstIn, RightOf, ThenOf}
+use Rattle.js_tree.specs.Automaton.{ElseOf, FieldIn, ListIn, GivenTo, ConstIn, LetIn, AssignIn, ReturnIn, TestIn}
+use Rattle.js_tree.specs.Automaton.{LineIn, MainIn, FlagsIn, PortIn, Block, BodyOf, CalledIn, ThenIn, ElseIn, LoopIn}
+use Rattle.js_tree.specs.Automaton.{Value, Ports, Literal, Key, PropertyOf, ModuleIn, OutIn, Variable, ConstAt, LetAt}
+use Rattle.js_tree.specs.Automaton.{AssignAt, LineAt, State, Want, Have, WantName, WantField, WantStatement, WantLine}
+use Rattle.js_tree.specs.Automaton.{WantLineName, WantOut, HaveOut, Known, Finished, known, close_block, program_of}
+use Rattle.js_tree.specs.Automaton.{reversed_onto, behind_text, step, run, start}
 use Rattle.js_tree.proofs.Steps.{zero_text, main_parts}
 use Rattle.js_tree.proofs.StepFits.{thirds}
 use Rattle.js_tree.proofs.Complete.{stops, along, lead, read_int, read_text, read_name, BeginsName}

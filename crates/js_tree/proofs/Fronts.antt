@@ -1,14 +1,25 @@
 -- What has been read where a state is reached, as text, and that it is spelled.
-use Rattle.std.proofs.Common.{◌≡◌, ℕ, suc, ◌-◌, ◌*◌, ◌^◌, pos, List, [], ◌∷◌, ◌++◌, Bool, true, false, ◌&&◌, ◌||◌, nat_le, nat_lt, codes, decimal}
+use Rattle.std.proofs.Common.{◌≡◌, ℕ, suc, ◌-◌, ◌*◌, ◌^◌, pos, List, [], ◌∷◌, ◌++◌, Bool, true, false, ◌&&◌, ◌||◌}
+use Rattle.std.proofs.Common.{nat_le, nat_lt, codes, decimal}
 use Rattle.std.specs.List.{list_all, list_any}
 use Rattle.js_tree.specs.declared.runtime.TheConstants.{HEAD}
 use Rattle.js_tree.specs.Tree.{Js, Fields}
-use Rattle.js_tree.specs.Text.{js_text, fields_text, stmts_text, name_text, text_text, units_text, operator_text, helper_text, JsText}
+use Rattle.js_tree.specs.Text.{js_text, fields_text, stmts_text, name_text, text_text, units_text, operator_text}
+use Rattle.js_tree.specs.Text.{helper_text, JsText}
 use Rattle.wire_value.specs.Exact.{is_exact}
 use Rattle.js_tree.specs.Subset.{is_unit, is_name, is_spelled, fields_spelled, are_spelled, is_program_spelled}
 use Rattle.js_tree.specs.NameReader.{is_begun, greatest}
 use Rattle.js_tree.proofs.NameTexts.{begun_text, begun_fits, digits_text}
-use Rattle.js_tree.specs.Automaton.{Items, NoItem, Item, Members, NoMember, Member, Before, NoStatement, ConstThen, LetThen, AssignThen, LinesBefore, NoLineYet, LineThen, Front, Place, ArgumentOf, FirstIn, RightOf, ThenOf, ElseOf, FieldIn, ListIn, GivenTo, ConstIn, LetIn, AssignIn, ReturnIn, TestIn, LineIn, MainIn, FlagsIn, PortIn, Block, BodyOf, CalledIn, ThenIn, ElseIn, LoopIn, ObjectAt, Value, Ports, TextAt, Literal, Key, PropertyOf, ModuleIn, OutIn, NameAt, Variable, ConstAt, LetAt, AssignAt, LineAt, State, Want, Have, InName, InInt, Minus_seen, InNegative, InText, InEscape, InDigits, InWord, WantName, WantField, WantStatement, InKeyword, Ended, Equals, WantLine, WantLineName, WantOut, HaveOut, Known, Finished, Dead, minus, words, word_text, begins_with, begin_statement_words, is_live}
+use Rattle.js_tree.specs.Automaton.{Items, NoItem, Item, Members, NoMember, Member, Before, NoStatement, ConstThen}
+use Rattle.js_tree.specs.Automaton.{LetThen, AssignThen, LinesBefore, NoLineYet, LineThen, Front, Place, ArgumentOf}
+use Rattle.js_tree.specs.Automaton.{FirstIn, RightOf, ThenOf, ElseOf, FieldIn, ListIn, GivenTo, ConstIn, LetIn}
+use Rattle.js_tree.specs.Automaton.{AssignIn, ReturnIn, TestIn, LineIn, MainIn, FlagsIn, PortIn, Block, BodyOf}
+use Rattle.js_tree.specs.Automaton.{CalledIn, ThenIn, ElseIn, LoopIn, ObjectAt, Value, Ports, TextAt, Literal, Key}
+use Rattle.js_tree.specs.Automaton.{PropertyOf, ModuleIn, OutIn, NameAt, Variable, ConstAt, LetAt, AssignAt, LineAt}
+use Rattle.js_tree.specs.Automaton.{State, Want, Have, InName, InInt, Minus_seen, InNegative, InText, InEscape}
+use Rattle.js_tree.specs.Automaton.{InDigits, InWord, WantName, WantField, WantStatement, InKeyword, Ended, Equals}
+use Rattle.js_tree.specs.Automaton.{WantLine, WantLineName, WantOut, HaveOut, Known, Finished, Dead, minus, words}
+use Rattle.js_tree.specs.Automaton.{word_text, begins_with, begin_statement_words, is_live}
 
 -- each part is ended by its comma
 abbrev pub items_text : Items → List ℕ

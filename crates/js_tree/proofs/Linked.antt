@@ -1,21 +1,22 @@
 -- Where trees begin, as nodes come.
-use Rattle.std.proofs.Common.{◌≡◌, ℕ, zero, suc, ◌+◌, ◌<◌, ◌≤◌, List, [], ◌∷◌, ◌++◌, length, take, get_or, refl, sym, ap, ◌∙◌, subst, arith, ◌⊎◌, inl, inr}
+use Rattle.std.proofs.Common.{◌≡◌, ℕ, zero, suc, ◌+◌, ◌<◌, ◌≤◌, List, [], ◌∷◌, ◌++◌, length, take, get_or, refl, sym}
+use Rattle.std.proofs.Common.{ap, ◌∙◌, subst, arith, ◌⊎◌, inl, inr}
 use Rattle.std.proofs.lemmas.List.{take_all, take-append-le, take_more, get_or_append_left, get_or_push}
 use Rattle.js_tree.specs.declared.tree.Node as node
 use Rattle.js_tree.specs.declared.tree.Node.{Node}
-use Rattle.js_tree.specs.Postorder.{Tree, apply, arity, below, below_times, build, build_on, trees_at}
+use Rattle.js_tree.specs.Postorder.{Tree, apply, arity, below, below_times, trees_of, build_on, trees_at}
 use Rattle.js_tree.specs.Insides.{IsStart, AreLinked}
 
 build_on-append : (ts : List Tree) (ns ms : List Node) → build_on ts (ns ++ ms) ≡ build_on (build_on ts ns) ms
 build_on-append ts [] ms = refl
 build_on-append ts (n ∷ ns) ms = build_on-append (apply n ts) ns ms
 
-pub build_push : (ns : List Node) (n : Node) → build (ns ++ n ∷ []) ≡ apply n (build ns)
+pub build_push : (ns : List Node) (n : Node) → trees_of (ns ++ n ∷ []) ≡ apply n (trees_of ns)
 build_push ns n = build_on-append [] ns (n ∷ [])
 
 -- one place on
 pub trees_more : (ns : List Node) (i : ℕ) (d : Node) → i < length ns → trees_at ns (suc i) ≡ apply (get_or ns i d) (trees_at ns i)
-trees_more ns i d h = let e : i + 1 ≡ suc i = omega arith in ap (λ k. trees_at ns k) (sym e) ∙ (ap build (take_more ns i d h) ∙ build_push (take i ns) (get_or ns i d))
+trees_more ns i d h = let e : i + 1 ≡ suc i = omega arith in ap (λ k. trees_at ns k) (sym e) ∙ (ap trees_of (take_more ns i d h) ∙ build_push (take i ns) (get_or ns i d))
 
 -- what a node takes lies below its tree
 pub below_apply : (n : Node) (ts : List Tree) → below (apply n ts) ≡ below_times (arity n) ts
@@ -50,11 +51,11 @@ below_apply node.Node.If ts = refl
 below_apply (node.Node.Program name outs) ts = refl
 
 -- the whole, and what came before
-pub trees_whole : (ns : List Node) (i : ℕ) → length ns ≤ i → trees_at ns i ≡ build ns
-trees_whole ns i h = ap build (take_all i ns h)
+pub trees_whole : (ns : List Node) (i : ℕ) → length ns ≤ i → trees_at ns i ≡ trees_of ns
+trees_whole ns i h = ap trees_of (take_all i ns h)
 
 pub trees_kept : (ns ms : List Node) (i : ℕ) → i ≤ length ns → trees_at (ns ++ ms) i ≡ trees_at ns i
-trees_kept ns ms i h = ap build (take-append-le i ns ms h)
+trees_kept ns ms i h = ap trees_of (take-append-le i ns ms h)
 
 length_push : {A : Type 0} (xs : List A) (x : A) → length (xs ++ x ∷ []) ≡ suc (length xs)
 length_push [] x = refl
@@ -71,7 +72,7 @@ split (suc i) (suc n) h = up (split i n (omega arith))
     up (inr p) = inr (ap suc p)
 
 -- one node more, whose tree begins below what it takes
-pub linked_push : (ns : List Node) (starts : List ℕ) (n : Node) (start : ℕ) → AreLinked ns starts → trees_at ns start ≡ below_times (arity n) (build ns) → start ≤ length ns
+pub linked_push : (ns : List Node) (starts : List ℕ) (n : Node) (start : ℕ) → AreLinked ns starts → trees_at ns start ≡ below_times (arity n) (trees_of ns) → start ≤ length ns
     → AreLinked (ns ++ n ∷ []) (starts ++ start ∷ [])
 linked_push ns starts n start l e h = record {
   count = length_push starts start ∙ (ap suc l.count ∙ sym (length_push ns n));
@@ -90,7 +91,7 @@ linked_push ns starts n start l e h = record {
     last : IsStart (ns ++ n ∷ []) (length ns) (get_or (starts ++ start ∷ []) (length ns) 0)
     last = subst (λ p. IsStart (ns ++ n ∷ []) (length ns) p) (sym (get_or_push starts start 0 (length ns) l.count)) (record {
       before = h;
-      trees = trees_kept ns (n ∷ []) start h ∙ (e ∙ (sym (below_apply n (build ns)) ∙ ap below (sym (trees_whole (ns ++ n ∷ []) (suc (length ns)) (subst (λ k. k ≤ suc (length ns)) (sym (length_push ns n)) (omega arith)) ∙ build_push ns n))));
+      trees = trees_kept ns (n ∷ []) start h ∙ (e ∙ (sym (below_apply n (trees_of ns)) ∙ ap below (sym (trees_whole (ns ++ n ∷ []) (suc (length ns)) (subst (λ k. k ≤ suc (length ns)) (sym (length_push ns n)) (omega arith)) ∙ build_push ns n))));
     })
 
     by_split : (i : ℕ) → (i < length ns) ⊎ (i ≡ length ns) → IsStart (ns ++ n ∷ []) i (get_or (starts ++ start ∷ []) i 0)

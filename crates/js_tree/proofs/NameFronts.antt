@@ -1,12 +1,16 @@
 -- What has been read of a name is its text so far, and is spelled.
-use Rattle.std.proofs.Common.{◌≡◌, ℕ, zero, suc, ◌+◌, ◌-◌, ◌*◌, ◌/◌, ◌%◌, ◌<◌, ◌≤◌, ◌^◌, List, [], ◌∷◌, ◌++◌, Bool, true, false, ◌&&◌, nat_eq, nat_le, nat_lt, if◌then◌else◌, refl, ap, sym, ◌∙◌, subst, arith, decimal, append_assoc, append-nil}
+use Rattle.std.proofs.Common.{◌≡◌, ℕ, zero, suc, ◌+◌, ◌-◌, ◌*◌, ◌/◌, ◌%◌, ◌<◌, ◌≤◌, ◌^◌, List, [], ◌∷◌, ◌++◌, Bool}
+use Rattle.std.proofs.Common.{true, false, ◌&&◌, nat_eq, nat_le, nat_lt, if◌then◌else◌, refl, ap, sym, ◌∙◌, subst}
+use Rattle.std.proofs.Common.{arith, decimal, append_assoc, append-nil}
 use Rattle.std.proofs.lemmas.Fmt.{decimal_step, decimal_digit}
 use Rattle.std.proofs.lemmas.Bool.Decides.{nat_tests}
 use Rattle.std.specs.List.{list_all}
 use Rattle.js_tree.specs.Tree.{Name, Top, Local, Made}
 use Rattle.js_tree.specs.Text.{hex_digit, hex4, is_word_char, name_unit, name_units, name_text}
 use Rattle.js_tree.specs.Subset.{is_upper, is_letter, is_name_unit, is_word, is_module, is_name}
-use Rattle.js_tree.specs.NameReader.{Owner, Own, Of, Begun, OneDollar, TwoDollars, Numbered, NameWord, Dollar, Digits, NoName, is_digit, is_hex_digit, hex_value, greatest, begins_upper, join, begin_name, numbered, next_word, next_digit, name_step, Name_is, name_of}
+use Rattle.js_tree.specs.NameReader.{Owner, Own, Of, Begun, OneDollar, TwoDollars, Numbered, NameWord, Dollar, Digits}
+use Rattle.js_tree.specs.NameReader.{NoName, is_digit, is_hex_digit, hex_value, greatest, begins_upper, join}
+use Rattle.js_tree.specs.NameReader.{begin_name, numbered, next_word, next_digit, name_step, Name_is, name_of}
 use Rattle.js_tree.proofs.NameTexts.{owner_text, digits_text, begun_text, owner_fits, digits_fit, begun_fits}
 
 -- a choice, by its cases

@@ -1,8 +1,10 @@
 -- What has been read of a name, as text, and whether a name that can be spelled begins so.
-use Rattle.std.proofs.Common.{ℕ, zero, suc, ◌-◌, ◌/◌, ◌%◌, ◌^◌, List, [], ◌∷◌, ◌++◌, Bool, true, ◌&&◌, nat_le, nat_lt, decimal}
+use Rattle.std.proofs.Common.{ℕ, zero, suc, ◌-◌, ◌/◌, ◌%◌, ◌^◌, List, [], ◌∷◌, ◌++◌, Bool, true, ◌&&◌, nat_le, nat_lt}
+use Rattle.std.proofs.Common.{decimal}
 use Rattle.js_tree.specs.Text.{hex_digit, name_units}
 use Rattle.js_tree.specs.Subset.{is_word, is_module}
-use Rattle.js_tree.specs.NameReader.{Owner, Own, Of, Begun, OneDollar, TwoDollars, Numbered, NameWord, Dollar, Digits, NoName, begins_upper, greatest}
+use Rattle.js_tree.specs.NameReader.{Owner, Own, Of, Begun, OneDollar, TwoDollars, Numbered, NameWord, Dollar, Digits}
+use Rattle.js_tree.specs.NameReader.{NoName, begins_upper, greatest}
 
 -- what has been read, as text
 abbrev pub owner_text : Owner → List ℕ

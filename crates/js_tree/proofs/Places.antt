@@ -1,5 +1,6 @@
 -- Bytes stop to be a text at exactly one place.
-use Rattle.std.proofs.Common.{◌≡◌, ℕ, List, [], ◌∷◌, ◌++◌, true, refl, ap, sym, ◌∙◌, subst, append_assoc, append-nil, ◌⊎◌, inl, inr}
+use Rattle.std.proofs.Common.{◌≡◌, ℕ, List, [], ◌∷◌, ◌++◌, true, refl, ap, sym, ◌∙◌, subst, append_assoc, append-nil}
+use Rattle.std.proofs.Common.{◌⊎◌, inl, inr}
 use Rattle.js_tree.specs.Faults.{Begins, Place, place_behind, IsFaultAt, Stops}
 use Rattle.js_tree.specs.Automaton.{Dead, step, run, start, is_live}
 use Rattle.js_tree.proofs.Plugs.{shorter}

@@ -1,16 +1,25 @@
 -- What has been read begins the text of a program.
-use Rattle.std.proofs.Common.{◌≡◌, ℕ, pos, List, [], ◌++◌, true, ◌&&◌, refl, ap, sym, ◌∙◌, codes, append_assoc, append-nil}
+use Rattle.std.proofs.Common.{◌≡◌, ℕ, pos, List, [], ◌++◌, true, ◌&&◌, refl, ap, sym, ◌∙◌, codes, append_assoc}
+use Rattle.std.proofs.Common.{append-nil}
 use Rattle.std.specs.List.{list_all}
 use Rattle.js_tree.specs.declared.runtime.TheConstants.{TAIL}
-use Rattle.js_tree.specs.Tree.{Plus, Js, JInt, JArrow, JBlock, JCall, JBinary, JConditional, JObject, JList, JHelper, NoJs, MoreJs, Fields, NoField, MoreField, Stmts, Const, Let, Assign, Return, If, While, Continue, NoLine, Program}
+use Rattle.js_tree.specs.Tree.{Plus, Js, JInt, JArrow, JBlock, JCall, JBinary, JConditional, JObject, JList, JHelper}
+use Rattle.js_tree.specs.Tree.{NoJs, MoreJs, Fields, NoField, MoreField, Stmts, Const, Let, Assign, Return, If, While}
+use Rattle.js_tree.specs.Tree.{Continue, NoLine, Program}
 use Rattle.js_tree.specs.Text.{js_text, stmts_text, JsText}
-use Rattle.js_tree.specs.Subset.{is_unit, is_name, is_spelled, are_spelled, fields_spelled, lines_spelled, is_program_spelled}
+use Rattle.js_tree.specs.Subset.{is_unit, is_name, is_spelled, are_spelled, fields_spelled, lines_spelled}
+use Rattle.js_tree.specs.Subset.{is_program_spelled}
 use Rattle.js_tree.specs.Faults.{Begins}
 use Rattle.js_tree.proofs.NameFronts.{and_true}
-use Rattle.js_tree.specs.Automaton.{Before, LinesBefore, LineThen, items_then, members_then, statements_then, lines_then, Front, Place, ArgumentOf, FirstIn, RightOf, ThenOf, ElseOf, FieldIn, ListIn, GivenTo, ConstIn, LetIn, AssignIn, ReturnIn, TestIn, LineIn, MainIn, FlagsIn, PortIn, Block, BodyOf, CalledIn, ThenIn, ElseIn, LoopIn, program_of}
-use Rattle.js_tree.proofs.Fronts.{before_text, place_text, block_text, items_fit, members_fit, before_fits, lines_fit, front_fits, place_fits, block_fits}
+use Rattle.js_tree.specs.Automaton.{Before, LinesBefore, LineThen, items_then, members_then, statements_then}
+use Rattle.js_tree.specs.Automaton.{lines_then, Front, Place, ArgumentOf, FirstIn, RightOf, ThenOf, ElseOf, FieldIn}
+use Rattle.js_tree.specs.Automaton.{ListIn, GivenTo, ConstIn, LetIn, AssignIn, ReturnIn, TestIn, LineIn, MainIn}
+use Rattle.js_tree.specs.Automaton.{FlagsIn, PortIn, Block, BodyOf, CalledIn, ThenIn, ElseIn, LoopIn, program_of}
+use Rattle.js_tree.proofs.Fronts.{before_text, place_text, block_text, items_fit, members_fit, before_fits, lines_fit}
+use Rattle.js_tree.proofs.Fronts.{front_fits, place_fits, block_fits}
 use Rattle.js_tree.proofs.Steps.{items_end, members_end, statements_whole, whole_text}
-use Rattle.js_tree.proofs.StepFits.{items_spelled, members_spelled, statements_spelled, all_lines_spelled, two, three, thirds}
+use Rattle.js_tree.proofs.StepFits.{items_spelled, members_spelled, statements_spelled, all_lines_spelled, two, three}
+use Rattle.js_tree.proofs.StepFits.{thirds}
 
 abbrev zero_js : Js
 zero_js = JInt (pos 0)

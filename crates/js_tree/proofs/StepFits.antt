@@ -1,16 +1,38 @@
 -- What has been read stays spelled.
-use Rattle.std.proofs.Common.{◌≡◌, ℕ, zero, suc, ◌+◌, ◌-◌, ◌*◌, ◌<◌, ◌^◌, pos, List, [], ◌∷◌, ◌++◌, Bool, true, ◌&&◌, ◌||◌, ◌==◌, nat_eq, nat_le, nat_lt, if◌then◌else◌, refl, arith, codes}
+use Rattle.std.proofs.Common.{◌≡◌, ℕ, zero, suc, ◌+◌, ◌-◌, ◌*◌, ◌<◌, ◌^◌, pos, List, [], ◌∷◌, ◌++◌, Bool, true, ◌&&◌}
+use Rattle.std.proofs.Common.{◌||◌, ◌==◌, nat_eq, nat_le, nat_lt, if◌then◌else◌, refl, arith, codes}
 use Rattle.std.proofs.lemmas.Bool.Decides.{nat_tests}
 use Rattle.std.specs.List.{list_all, list_any}
 use Rattle.std.specs.Str.{bytes_eq}
-use Rattle.js_tree.specs.Tree.{Name, StrictEquals, Js, JInt, JVar, JsList, NoJs, MoreJs, Fields, NoField, MoreField, Stmts, Const, Let, Assign, Lines, NoLine, MoreLine}
+use Rattle.js_tree.specs.Tree.{Name, StrictEquals, Js, JInt, JVar, JsList, NoJs, MoreJs, Fields, NoField, MoreField}
+use Rattle.js_tree.specs.Tree.{Stmts, Const, Let, Assign, Lines, NoLine, MoreLine}
 use Rattle.wire_value.specs.Exact.{is_exact}
-use Rattle.js_tree.specs.Subset.{is_upper, is_unit, is_name, is_spelled, list_spelled, fields_spelled, are_spelled, lines_spelled}
-use Rattle.js_tree.specs.NameReader.{Begun, OneDollar, TwoDollars, Numbered, NameWord, Dollar, Digits, NoName, begin_name, name_step, name_of, Found, Not, Name_is, is_begun, is_run, is_digit, is_hex_digit, hex_value, greatest}
+use Rattle.js_tree.specs.Subset.{is_upper, is_unit, is_name, is_spelled, list_spelled, fields_spelled, are_spelled}
+use Rattle.js_tree.specs.Subset.{lines_spelled}
+use Rattle.js_tree.specs.NameReader.{Begun, OneDollar, TwoDollars, Numbered, NameWord, Dollar, Digits, NoName}
+use Rattle.js_tree.specs.NameReader.{begin_name, name_step, name_of, Found, Not, Name_is, is_begun, is_run, is_digit}
+use Rattle.js_tree.specs.NameReader.{is_hex_digit, hex_value, greatest}
 use Rattle.js_tree.proofs.NameTexts.{begun_fits}
-use Rattle.js_tree.proofs.NameFronts.{ifs, and_true, both_true, list_all-append, name_fits, name_ends, name_begins, hex_value_fits}
-use Rattle.js_tree.specs.Automaton.{Items, NoItem, Item, Members, NoMember, Member, Before, NoStatement, ConstThen, LetThen, AssignThen, LinesBefore, NoLineYet, LineThen, items_then, members_then, statements_then, lines_then, Front, Place, ArgumentOf, FirstIn, RightOf, ThenOf, ElseOf, FieldIn, ListIn, GivenTo, ConstIn, LetIn, AssignIn, ReturnIn, TestIn, LineIn, MainIn, FlagsIn, PortIn, Block, BodyOf, CalledIn, ThenIn, ElseIn, LoopIn, ObjectAt, Value, Ports, TextAt, Literal, Key, PropertyOf, ModuleIn, OutIn, NameAt, Variable, ConstAt, LetAt, AssignAt, LineAt, State, Want, Have, InName, InInt, Minus_seen, InNegative, InText, InEscape, InDigits, InWord, WantName, WantField, WantStatement, InKeyword, Ended, Equals, WantLine, WantLineName, WantOut, HaveOut, Known, Finished, Dead, Word, TrueWord, FalseWord, ListWord, HelperWord, words, word_text, begins_with, begin_statement_words, behind_word, find_word, in_word, in_keyword, known, close_block, operator_at, on_bracket, close, have, no_parameter, no_expression, name_at, int_at, minus, negative_at, want, behind_name, end_name, in_name, behind_text, is_plain, in_text, in_escape, next_digit, close_fields, want_field, want_statement, equals, want_line_name, end_outs, reversed_onto, want_out, have_out, step, is_live}
-use Rattle.js_tree.proofs.Fronts.{items_fit, members_fit, before_fits, lines_fit, front_fits, outs_fit, place_fits, block_fits, object_fits, text_fits, name_at_fits, escape_fits, state_fits}
+use Rattle.js_tree.proofs.NameFronts.{ifs, and_true, both_true, list_all-append, name_fits, name_ends, name_begins}
+use Rattle.js_tree.proofs.NameFronts.{hex_value_fits}
+use Rattle.js_tree.specs.Automaton.{Items, NoItem, Item, Members, NoMember, Member, Before, NoStatement, ConstThen}
+use Rattle.js_tree.specs.Automaton.{LetThen, AssignThen, LinesBefore, NoLineYet, LineThen, items_then, members_then}
+use Rattle.js_tree.specs.Automaton.{statements_then, lines_then, Front, Place, ArgumentOf, FirstIn, RightOf, ThenOf}
+use Rattle.js_tree.specs.Automaton.{ElseOf, FieldIn, ListIn, GivenTo, ConstIn, LetIn, AssignIn, ReturnIn, TestIn}
+use Rattle.js_tree.specs.Automaton.{LineIn, MainIn, FlagsIn, PortIn, Block, BodyOf, CalledIn, ThenIn, ElseIn, LoopIn}
+use Rattle.js_tree.specs.Automaton.{ObjectAt, Value, Ports, TextAt, Literal, Key, PropertyOf, ModuleIn, OutIn, NameAt}
+use Rattle.js_tree.specs.Automaton.{Variable, ConstAt, LetAt, AssignAt, LineAt, State, Want, Have, InName, InInt}
+use Rattle.js_tree.specs.Automaton.{Minus_seen, InNegative, InText, InEscape, InDigits, InWord, WantName, WantField}
+use Rattle.js_tree.specs.Automaton.{WantStatement, InKeyword, Ended, Equals, WantLine, WantLineName, WantOut, HaveOut}
+use Rattle.js_tree.specs.Automaton.{Known, Finished, Dead, Word, TrueWord, FalseWord, ListWord, HelperWord, words}
+use Rattle.js_tree.specs.Automaton.{word_text, begins_with, begin_statement_words, behind_word, find_word, in_word}
+use Rattle.js_tree.specs.Automaton.{in_keyword, known, close_block, operator_at, on_bracket, close, have, no_parameter}
+use Rattle.js_tree.specs.Automaton.{no_expression, name_at, int_at, minus, negative_at, want, behind_name, end_name}
+use Rattle.js_tree.specs.Automaton.{in_name, behind_text, is_plain, in_text, in_escape, next_digit, close_fields}
+use Rattle.js_tree.specs.Automaton.{want_field, want_statement, equals, want_line_name, end_outs, reversed_onto}
+use Rattle.js_tree.specs.Automaton.{want_out, have_out, step, is_live}
+use Rattle.js_tree.proofs.Fronts.{items_fit, members_fit, before_fits, lines_fit, front_fits, outs_fit, place_fits}
+use Rattle.js_tree.proofs.Fronts.{block_fits, object_fits, text_fits, name_at_fits, escape_fits, state_fits}
 
 -- with what follows
 pub items_spelled : (before : Items) (es : JsList) → items_fit before ≡ true → list_spelled es ≡ true → list_spelled (items_then before es) ≡ true

@@ -1,20 +1,44 @@
 -- Each character goes to what has been read.
-use Rattle.std.proofs.Common.{◌≡◌, ℕ, zero, suc, ◌+◌, ◌-◌, ◌*◌, ◌<◌, ◌≤◌, ◌^◌, pos, List, [], ◌∷◌, ◌++◌, Bool, true, false, ◌&&◌, ◌||◌, ◌==◌, nat_eq, nat_le, nat_lt, if◌then◌else◌, refl, ap, sym, ◌∙◌, subst, arith, codes, decimal, append_assoc, append-nil}
+use Rattle.std.proofs.Common.{◌≡◌, ℕ, zero, suc, ◌+◌, ◌-◌, ◌*◌, ◌<◌, ◌≤◌, ◌^◌, pos, List, [], ◌∷◌, ◌++◌, Bool, true}
+use Rattle.std.proofs.Common.{false, ◌&&◌, ◌||◌, ◌==◌, nat_eq, nat_le, nat_lt, if◌then◌else◌, refl, ap, sym, ◌∙◌, subst}
+use Rattle.std.proofs.Common.{arith, codes, decimal, append_assoc, append-nil}
 use Rattle.std.proofs.lemmas.Bool.Decides.{nat_tests}
 use Rattle.std.proofs.lemmas.Fmt.{decimal_digit}
 use Rattle.std.proofs.lemmas.Slice.Eq.{bytes_eq-Decides}
 use Rattle.std.specs.List.{list_all, list_any}
 use Rattle.std.specs.Str.{bytes_eq}
 use Rattle.js_tree.specs.declared.runtime.TheConstants.{HEAD, TAIL}
-use Rattle.js_tree.specs.Tree.{Name, StrictEquals, Js, JInt, JVar, JsList, NoJs, MoreJs, Fields, NoField, MoreField, Stmts, Const, Let, Assign, Lines, NoLine, MoreLine, Program}
-use Rattle.js_tree.specs.Text.{js_text, list_text, more_text, fields_text, more_fields_text, stmts_text, name_text, text_text, unit_text, units_text, lines_text, outs_fields, main_text, hex4, JsText}
+use Rattle.js_tree.specs.Tree.{Name, StrictEquals, Js, JInt, JVar, JsList, NoJs, MoreJs, Fields, NoField, MoreField}
+use Rattle.js_tree.specs.Tree.{Stmts, Const, Let, Assign, Lines, NoLine, MoreLine, Program}
+use Rattle.js_tree.specs.Text.{js_text, list_text, more_text, fields_text, more_fields_text, stmts_text, name_text}
+use Rattle.js_tree.specs.Text.{text_text, unit_text, units_text, lines_text, outs_fields, main_text, hex4, JsText}
 use Rattle.wire_value.specs.Exact.{is_exact}
 use Rattle.js_tree.specs.Subset.{is_upper, is_unit}
-use Rattle.js_tree.specs.NameReader.{Begun, OneDollar, TwoDollars, Numbered, NameWord, Dollar, Digits, NoName, begin_name, name_step, name_of, Found, Not, Name_is, is_begun, is_run, is_digit, is_hex_digit, hex_value, greatest}
+use Rattle.js_tree.specs.NameReader.{Begun, OneDollar, TwoDollars, Numbered, NameWord, Dollar, Digits, NoName}
+use Rattle.js_tree.specs.NameReader.{begin_name, name_step, name_of, Found, Not, Name_is, is_begun, is_run, is_digit}
+use Rattle.js_tree.specs.NameReader.{is_hex_digit, hex_value, greatest}
 use Rattle.js_tree.proofs.NameTexts.{begun_text, begun_fits, digits_text}
-use Rattle.js_tree.proofs.NameFronts.{ifs, and_true, same, name_reads, name_ends, name_begun, reads_itself, Reads, digits_go_on, digits_end, number_grows, first_digit}
-use Rattle.js_tree.specs.Automaton.{Items, NoItem, Item, Members, NoMember, Member, Before, NoStatement, ConstThen, LetThen, AssignThen, LinesBefore, NoLineYet, LineThen, items_then, members_then, statements_then, lines_then, Front, Place, ArgumentOf, FirstIn, RightOf, ThenOf, ElseOf, FieldIn, ListIn, GivenTo, ConstIn, LetIn, AssignIn, ReturnIn, TestIn, LineIn, MainIn, FlagsIn, PortIn, Block, BodyOf, CalledIn, ThenIn, ElseIn, LoopIn, ObjectAt, Value, Ports, TextAt, Literal, Key, PropertyOf, ModuleIn, OutIn, NameAt, Variable, ConstAt, LetAt, AssignAt, LineAt, State, Want, Have, InName, InInt, Minus_seen, InNegative, InText, InEscape, InDigits, InWord, WantName, WantField, WantStatement, InKeyword, Ended, Equals, WantLine, WantLineName, WantOut, HaveOut, Known, Finished, Dead, Word, TrueWord, FalseWord, ListWord, HelperWord, words, word_text, begins_with, begin_statement_words, behind_word, find_word, in_word, in_keyword, known, close_block, operator_at, program_of, on_bracket, close, have, no_parameter, no_expression, name_at, int_at, minus, negative_at, want, behind_name, end_name, in_name, in_int, in_negative, behind_text, is_plain, in_text, in_escape, next_digit, close_fields, want_field, want_statement, equals, want_line_name, end_outs, reversed_onto, want_out, have_out, step}
-use Rattle.js_tree.proofs.Fronts.{items_text, members_text, before_text, lines_before_text, outs_front, outs_text, outs_before, place_text, block_text, object_text, text_front, name_front, IsFront, name_at_fits, place_fits, text_fits, escape_fits, state_fits}
+use Rattle.js_tree.proofs.NameFronts.{ifs, and_true, same, name_reads, name_ends, name_begun, reads_itself, Reads}
+use Rattle.js_tree.proofs.NameFronts.{digits_go_on, digits_end, number_grows, first_digit}
+use Rattle.js_tree.specs.Automaton.{Items, NoItem, Item, Members, NoMember, Member, Before, NoStatement, ConstThen}
+use Rattle.js_tree.specs.Automaton.{LetThen, AssignThen, LinesBefore, NoLineYet, LineThen, items_then, members_then}
+use Rattle.js_tree.specs.Automaton.{statements_then, lines_then, Front, Place, ArgumentOf, FirstIn, RightOf, ThenOf}
+use Rattle.js_tree.specs.Automaton.{ElseOf, FieldIn, ListIn, GivenTo, ConstIn, LetIn, AssignIn, ReturnIn, TestIn}
+use Rattle.js_tree.specs.Automaton.{LineIn, MainIn, FlagsIn, PortIn, Block, BodyOf, CalledIn, ThenIn, ElseIn, LoopIn}
+use Rattle.js_tree.specs.Automaton.{ObjectAt, Value, Ports, TextAt, Literal, Key, PropertyOf, ModuleIn, OutIn, NameAt}
+use Rattle.js_tree.specs.Automaton.{Variable, ConstAt, LetAt, AssignAt, LineAt, State, Want, Have, InName, InInt}
+use Rattle.js_tree.specs.Automaton.{Minus_seen, InNegative, InText, InEscape, InDigits, InWord, WantName, WantField}
+use Rattle.js_tree.specs.Automaton.{WantStatement, InKeyword, Ended, Equals, WantLine, WantLineName, WantOut, HaveOut}
+use Rattle.js_tree.specs.Automaton.{Known, Finished, Dead, Word, TrueWord, FalseWord, ListWord, HelperWord, words}
+use Rattle.js_tree.specs.Automaton.{word_text, begins_with, begin_statement_words, behind_word, find_word, in_word}
+use Rattle.js_tree.specs.Automaton.{in_keyword, known, close_block, operator_at, program_of, on_bracket, close, have}
+use Rattle.js_tree.specs.Automaton.{no_parameter, no_expression, name_at, int_at, minus, negative_at, want, behind_name}
+use Rattle.js_tree.specs.Automaton.{end_name, in_name, in_int, in_negative, behind_text, is_plain, in_text, in_escape}
+use Rattle.js_tree.specs.Automaton.{next_digit, close_fields, want_field, want_statement, equals, want_line_name}
+use Rattle.js_tree.specs.Automaton.{end_outs, reversed_onto, want_out, have_out, step}
+use Rattle.js_tree.proofs.Fronts.{items_text, members_text, before_text, lines_before_text, outs_front, outs_text}
+use Rattle.js_tree.proofs.Fronts.{outs_before, place_text, block_text, object_text, text_front, name_front, IsFront}
+use Rattle.js_tree.proofs.Fronts.{name_at_fits, place_fits, text_fits, escape_fits, state_fits}
 
 -- the parts of a list, with those that follow
 items_whole : (before : Items) (e : Js) (es : JsList) → list_text (items_then before (MoreJs e es)) ≡ items_text before ++ js_text e ++ more_text es

@@ -1,19 +1,34 @@
 -- Where the reader is not dead, what has been read begins the text of a program.
-use Rattle.std.proofs.Common.{◌≡◌, ℕ, zero, suc, ◌+◌, ◌-◌, ◌*◌, ◌<◌, ◌^◌, pos, negsuc, List, [], ◌∷◌, ◌++◌, Bool, true, false, ◌&&◌, ◌||◌, nat_eq, nat_le, nat_lt, refl, ap, sym, ◌∙◌, arith, codes, decimal, append_assoc, append-nil}
+use Rattle.std.proofs.Common.{◌≡◌, ℕ, zero, suc, ◌+◌, ◌-◌, ◌*◌, ◌<◌, ◌^◌, pos, negsuc, List, [], ◌∷◌, ◌++◌, Bool, true}
+use Rattle.std.proofs.Common.{false, ◌&&◌, ◌||◌, nat_eq, nat_le, nat_lt, refl, ap, sym, ◌∙◌, arith, codes, decimal}
+use Rattle.std.proofs.Common.{append_assoc, append-nil}
 use Rattle.std.proofs.lemmas.Bool.Decides.{nat_tests}
 use Rattle.std.proofs.lemmas.Fmt.{decimal_digit}
 use Rattle.std.specs.List.{list_all, list_any}
 use Rattle.js_tree.specs.declared.runtime.TheConstants.{TAIL}
-use Rattle.js_tree.specs.Tree.{Name, Top, Local, Made, StrictEquals, JInt, JBool, JText, JVar, JProperty, Fields, Continue}
+use Rattle.js_tree.specs.Tree.{Name, Top, Local, Made, StrictEquals, JInt, JBool, JText, JVar, JProperty, Fields}
+use Rattle.js_tree.specs.Tree.{Continue}
 use Rattle.js_tree.specs.Text.{name_text, name_units, text_text, units_text}
 use Rattle.wire_value.specs.Exact.{is_exact}
 use Rattle.js_tree.specs.Faults.{Begins}
 use Rattle.js_tree.specs.Subset.{is_unit, is_word, is_module, is_name, is_spelled, are_spelled, fields_spelled}
-use Rattle.js_tree.specs.NameReader.{Owner, Own, Of, Begun, OneDollar, TwoDollars, Numbered, NameWord, Dollar, Digits, NoName, is_begun, is_hex_digit, hex_value, greatest, begins_upper}
+use Rattle.js_tree.specs.NameReader.{Owner, Own, Of, Begun, OneDollar, TwoDollars, Numbered, NameWord, Dollar, Digits}
+use Rattle.js_tree.specs.NameReader.{NoName, is_begun, is_hex_digit, hex_value, greatest, begins_upper}
 use Rattle.js_tree.proofs.NameTexts.{begun_text, begun_fits, owner_text, owner_fits, digits_fit, digits_text}
-use Rattle.js_tree.proofs.NameFronts.{and_true, word_is_module, owner_goes_on, word_grows, past_word, digits_go_on, digits_end, digit_is_last, list_all-append, same}
-use Rattle.js_tree.specs.Automaton.{NoItem, Members, Before, Front, Place, RightOf, FieldIn, ListIn, GivenTo, ConstIn, LetIn, AssignIn, ReturnIn, TestIn, LineIn, MainIn, PortIn, Block, LoopIn, ObjectAt, Value, Ports, TextAt, Literal, Key, PropertyOf, ModuleIn, OutIn, NameAt, Variable, ConstAt, LetAt, AssignAt, LineAt, State, Want, Have, InName, InInt, Minus_seen, InNegative, InText, InEscape, InDigits, InWord, WantName, WantField, WantStatement, InKeyword, Ended, Equals, WantLine, WantLineName, WantOut, HaveOut, Known, Finished, Dead, Word, TrueWord, FalseWord, ListWord, HelperWord, words, word_text, begins_with, begin_statement_words, program_of, minus, reversed_onto, is_live}
-use Rattle.js_tree.proofs.Fronts.{place_text, block_text, before_text, object_text, members_text, text_front, name_front, outs_front, outs_text, outs_before, IsFront, place_fits, block_fits, before_fits, lines_fit, front_fits, outs_fit, object_fits, members_fit, text_fits, name_at_fits, escape_fits, state_fits}
+use Rattle.js_tree.proofs.NameFronts.{and_true, word_is_module, owner_goes_on, word_grows, past_word, digits_go_on}
+use Rattle.js_tree.proofs.NameFronts.{digits_end, digit_is_last, list_all-append, same}
+use Rattle.js_tree.specs.Automaton.{NoItem, Members, Before, Front, Place, RightOf, FieldIn, ListIn, GivenTo, ConstIn}
+use Rattle.js_tree.specs.Automaton.{LetIn, AssignIn, ReturnIn, TestIn, LineIn, MainIn, PortIn, Block, LoopIn, ObjectAt}
+use Rattle.js_tree.specs.Automaton.{Value, Ports, TextAt, Literal, Key, PropertyOf, ModuleIn, OutIn, NameAt, Variable}
+use Rattle.js_tree.specs.Automaton.{ConstAt, LetAt, AssignAt, LineAt, State, Want, Have, InName, InInt, Minus_seen}
+use Rattle.js_tree.specs.Automaton.{InNegative, InText, InEscape, InDigits, InWord, WantName, WantField, WantStatement}
+use Rattle.js_tree.specs.Automaton.{InKeyword, Ended, Equals, WantLine, WantLineName, WantOut, HaveOut, Known, Finished}
+use Rattle.js_tree.specs.Automaton.{Dead, Word, TrueWord, FalseWord, ListWord, HelperWord, words, word_text}
+use Rattle.js_tree.specs.Automaton.{begins_with, begin_statement_words, program_of, minus, reversed_onto, is_live}
+use Rattle.js_tree.proofs.Fronts.{place_text, block_text, before_text, object_text, members_text, text_front}
+use Rattle.js_tree.proofs.Fronts.{name_front, outs_front, outs_text, outs_before, IsFront, place_fits, block_fits}
+use Rattle.js_tree.proofs.Fronts.{before_fits, lines_fit, front_fits, outs_fit, object_fits, members_fit, text_fits}
+use Rattle.js_tree.proofs.Fronts.{name_at_fits, escape_fits, state_fits}
 use Rattle.js_tree.proofs.Steps.{outs_end, whole_text, text_grows, spelled_text}
 use Rattle.js_tree.proofs.StepFits.{two, three, thirds, end_fits, reversed_fit}
 use Rattle.js_tree.proofs.Plugs.{shorter, at_value, at_place, at_block, at_statement}

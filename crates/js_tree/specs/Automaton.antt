@@ -1,16 +1,23 @@
 -- The texts of programs, read character by character: what the characters so far have come to, and where one more leads. What no program's
 -- text begins with leads to Dead, and everything else to what stands in that text so far.
-use Rattle.std.specs.Prelude.{ℕ, zero, suc, ◌+◌, ◌-◌, ◌*◌, ◌^◌, ℤ, pos, negsuc, List, [], ◌∷◌, ◌++◌, Bool, true, false, ◌&&◌, ◌||◌, ◌==◌, nat_le, nat_lt, if◌then◌else◌, codes}
+use Rattle.std.specs.Prelude.{ℕ, zero, suc, ◌+◌, ◌-◌, ◌*◌, ◌^◌, ℤ, pos, negsuc, List, [], ◌∷◌, ◌++◌, Bool, true, false}
+use Rattle.std.specs.Prelude.{◌&&◌, ◌||◌, ◌==◌, nat_le, nat_lt, if◌then◌else◌, codes}
 use Rattle.std.specs.List.{list_any}
 use Rattle.std.specs.Str.{bytes_eq}
 use Rattle.js_tree.specs.declared.runtime.TheConstants.{HEAD, TAIL}
 use Rattle.js_tree.specs.Tree as js
-use Rattle.js_tree.specs.Tree.{Name, Operator, Plus, Minus, Times, StrictEquals, And, Or, Helper, Js, JInt, JBool, JText, JVar, JArrow, JBlock, JCall, JBinary, JConditional, JObject, JProperty, JList, JHelper, JsList, NoJs, MoreJs, Fields, NoField, MoreField, Stmts, Const, Let, Assign, Return, If, While, Continue, Lines, NoLine, MoreLine, Program}
+use Rattle.js_tree.specs.Tree.{Name, Operator, Plus, Minus, Times, StrictEquals, And, Or, Helper, Js, JInt, JBool}
+use Rattle.js_tree.specs.Tree.{JText, JVar, JArrow, JBlock, JCall, JBinary, JConditional, JObject, JProperty, JList}
+use Rattle.js_tree.specs.Tree.{JHelper, JsList, NoJs, MoreJs, Fields, NoField, MoreField, Stmts, Const, Let, Assign}
+use Rattle.js_tree.specs.Tree.{Return, If, While, Continue, Lines, NoLine, MoreLine, Program}
 use Rattle.js_tree.specs.Text.{helper_text}
-pub use Rattle.js_tree.specs.Postorder.{Items, NoItem, Item, Members, NoMember, Member, Before, NoStatement, ConstThen, LetThen, AssignThen, LinesBefore, NoLineYet, LineThen, items_then, members_then, statements_then, lines_then}
+pub use Rattle.js_tree.specs.Postorder.{Items, NoItem, Item, Members, NoMember, Member, Before, NoStatement, ConstThen}
+pub use Rattle.js_tree.specs.Postorder.{LetThen, AssignThen, LinesBefore, NoLineYet, LineThen, items_then, members_then}
+pub use Rattle.js_tree.specs.Postorder.{statements_then, lines_then}
 use Rattle.wire_value.specs.Exact.{is_exact}
 use Rattle.js_tree.specs.Subset.{is_upper}
-use Rattle.js_tree.specs.NameReader.{Begun, NoName, begin_name, name_step, name_of, Found, Not, Name_is, is_run, is_digit, is_hex_digit, hex_value, greatest}
+use Rattle.js_tree.specs.NameReader.{Begun, NoName, begin_name, name_step, name_of, Found, Not, Name_is, is_run}
+use Rattle.js_tree.specs.NameReader.{is_digit, is_hex_digit, hex_value, greatest}
 
 -- what the object of `_main` has before its incoming ports
 pub record Front : Type 0 where

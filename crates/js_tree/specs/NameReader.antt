@@ -1,5 +1,6 @@
 -- The names of a program, read character by character: what the characters so far have come to, and where one more leads.
-use Rattle.std.specs.Prelude.{ℕ, zero, suc, ◌+◌, ◌-◌, ◌*◌, ◌/◌, ◌%◌, ◌^◌, List, [], ◌∷◌, ◌++◌, Bool, true, false, ◌&&◌, ◌||◌, ◌==◌, nat_le, nat_lt, if◌then◌else◌, decimal}
+use Rattle.std.specs.Prelude.{ℕ, zero, suc, ◌+◌, ◌-◌, ◌*◌, ◌/◌, ◌%◌, ◌^◌, List, [], ◌∷◌, ◌++◌, Bool, true, false, ◌&&◌}
+use Rattle.std.specs.Prelude.{◌||◌, ◌==◌, nat_le, nat_lt, if◌then◌else◌, decimal}
 use Rattle.js_tree.specs.Tree.{Name, Top, Local, Made}
 use Rattle.js_tree.specs.Text.{is_word_char}
 use Rattle.js_tree.specs.Subset.{is_upper, is_letter}

@@ -2,7 +2,10 @@
 -- trees, the last one first: a node takes its parts from it and puts its tree on it. A part of another kind, or one that is not there, counts as
 -- the number 0, as no items, or as `continue;`.
 use Rattle.std.specs.Prelude.{ℕ, zero, suc, pos, List, [], ◌∷◌, take}
-use Rattle.js_tree.specs.Tree.{Name, Top, Local, Made, Operator, Helper, Js, JInt, JBool, JText, JVar, JArrow, JBlock, JCall, JBinary, JConditional, JObject, JProperty, JList, JHelper, JsList, NoJs, MoreJs, Fields, NoField, MoreField, Stmts, Const, Let, Assign, Return, If, While, Continue, Lines, NoLine, MoreLine, Program}
+use Rattle.js_tree.specs.Tree.{Name, Top, Local, Made, Operator, Helper, Js, JInt, JBool, JText, JVar, JArrow, JBlock}
+use Rattle.js_tree.specs.Tree.{JCall, JBinary, JConditional, JObject, JProperty, JList, JHelper, JsList, NoJs, MoreJs}
+use Rattle.js_tree.specs.Tree.{Fields, NoField, MoreField, Stmts, Const, Let, Assign, Return, If, While, Continue}
+use Rattle.js_tree.specs.Tree.{Lines, NoLine, MoreLine, Program}
 use Rattle.js_tree.specs.Tree as plain
 use Rattle.js_tree.specs.declared.tree.Name as name
 use Rattle.js_tree.specs.declared.tree.Operator as operator
@@ -231,9 +234,9 @@ abbrev pub build_on : List Tree → List node.Node → List Tree
 build_on ts [] = ts
 build_on ts (n ∷ ns) = build_on (apply n ts) ns
 
-abbrev pub build : List node.Node → List Tree
-build ns = build_on [] ns
+abbrev pub trees_of : List node.Node → List Tree
+trees_of ns = build_on [] ns
 
 -- the trees up to a place, which is a number of nodes
 abbrev pub trees_at : List node.Node → ℕ → List Tree
-trees_at ns place = build (take place ns)
+trees_at ns place = trees_of (take place ns)

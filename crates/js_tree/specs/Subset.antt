@@ -1,8 +1,12 @@
 -- The conditions of the subset: names and texts that can be spelled, integers that are exact, each name bound where it is used, and a name that is
 -- assigned in no function nested in its scope.
-use Rattle.std.specs.Prelude.{ℕ, ◌^◌, List, [], ◌∷◌, map, Bool, true, false, if◌then◌else◌, ◌&&◌, ◌||◌, not, ◌==◌, nat_le, nat_lt}
+use Rattle.std.specs.Prelude.{ℕ, ◌^◌, List, [], ◌∷◌, map, Bool, true, false, if◌then◌else◌, ◌&&◌, ◌||◌, not, ◌==◌}
+use Rattle.std.specs.Prelude.{nat_le, nat_lt}
 use Rattle.std.specs.List.{list_all}
-use Rattle.js_tree.specs.Tree.{Name, Top, Local, Made, same_name, Js, JInt, JBool, JText, JVar, JArrow, JBlock, JCall, JBinary, JConditional, JObject, JProperty, JList, JHelper, JsList, NoJs, MoreJs, Fields, NoField, MoreField, Stmts, Const, Let, Assign, Return, If, While, Continue, Lines, NoLine, MoreLine, Program, declares}
+use Rattle.js_tree.specs.Tree.{Name, Top, Local, Made, same_name, Js, JInt, JBool, JText, JVar, JArrow, JBlock, JCall}
+use Rattle.js_tree.specs.Tree.{JBinary, JConditional, JObject, JProperty, JList, JHelper, JsList, NoJs, MoreJs, Fields}
+use Rattle.js_tree.specs.Tree.{NoField, MoreField, Stmts, Const, Let, Assign, Return, If, While, Continue, Lines}
+use Rattle.js_tree.specs.Tree.{NoLine, MoreLine, Program, declares}
 use Rattle.wire_value.specs.Exact.{is_exact}
 use Rattle.js_tree.specs.Text.{is_word_char}
 

@@ -1,10 +1,14 @@
 -- JsText: which bytes are the text of a program. (ECMA-262: 12.7 names, 12.9.3 numbers, 12.9.4 texts; each construct in one spelling, without
 -- blanks but those after const, let and return.) It is the fixed front, a line for each constant, the line of `_main`, and the fixed end.
-use Rattle.std.specs.Prelude.{◌≡◌, ℕ, suc, ℤ, pos, negsuc, ◌+◌, ◌/◌, ◌%◌, List, [], ◌∷◌, ◌++◌, Bool, true, false, if◌then◌else◌, ◌&&◌, ◌||◌, ◌==◌, nat_le, nat_lt, codes, decimal}
+use Rattle.std.specs.Prelude.{◌≡◌, ℕ, suc, ℤ, pos, negsuc, ◌+◌, ◌/◌, ◌%◌, List, [], ◌∷◌, ◌++◌, Bool, true, false}
+use Rattle.std.specs.Prelude.{if◌then◌else◌, ◌&&◌, ◌||◌, ◌==◌, nat_le, nat_lt, codes, decimal}
 pub use Rattle.elm_base.specs.Quoted.{hex_digit, hex4, unit_text, units_text, text_text}
 use Rattle.js_tree.specs.declared.runtime.TheConstants.{HEAD, TAIL}
 use Rattle.js_tree.specs.Tree as js
-use Rattle.js_tree.specs.Tree.{Name, Top, Local, Made, Operator, Plus, Minus, Times, StrictEquals, And, Or, Helper, Js, JInt, JBool, JText, JVar, JArrow, JBlock, JCall, JBinary, JConditional, JObject, JProperty, JList, JHelper, JsList, NoJs, MoreJs, Fields, NoField, MoreField, Stmts, Const, Let, Assign, Return, If, While, Continue, Lines, NoLine, MoreLine, Program}
+use Rattle.js_tree.specs.Tree.{Name, Top, Local, Made, Operator, Plus, Minus, Times, StrictEquals, And, Or, Helper, Js}
+use Rattle.js_tree.specs.Tree.{JInt, JBool, JText, JVar, JArrow, JBlock, JCall, JBinary, JConditional, JObject}
+use Rattle.js_tree.specs.Tree.{JProperty, JList, JHelper, JsList, NoJs, MoreJs, Fields, NoField, MoreField, Stmts}
+use Rattle.js_tree.specs.Tree.{Const, Let, Assign, Return, If, While, Continue, Lines, NoLine, MoreLine, Program}
 
 -- an integer: in decimal, a negative one as (-5)
 abbrev pub int_text : ℤ → List ℕ

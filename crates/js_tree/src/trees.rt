@@ -1,7 +1,8 @@
 //! Trees of an output, one after the other.
 
-ghost use Rattle.std.specs.Prelude.{◌≡◌, ◌≤◌, ◌<◌, ◌-◌, ℕ, List, [], ◌∷◌, ◌++◌, IfOk, IfSome, IfNone, OnOk, OnErr, length, take, get_or};
-ghost use Rattle.js_tree.specs.Postorder.{apply, arity, below, below_times, build, trees_at};
+ghost use Rattle.std.specs.Prelude.{◌≡◌, ◌≤◌, ◌<◌, ◌-◌, ℕ, List, [], ◌∷◌, ◌++◌, IfOk, IfSome, IfNone, OnOk, OnErr};
+ghost use Rattle.std.specs.Prelude.{length, take, get_or};
+ghost use Rattle.js_tree.specs.Postorder.{apply, arity, below, below_times, trees_of, trees_at};
 ghost use Rattle.js_tree.specs.Insides.{AreLinked};
 
 use crate::tree::Node;
@@ -52,7 +53,7 @@ impl Trees {
     /// Adds a node. The error means that memory ran out, and then the trees are as before.
     pub fn push(&mut self, node: Node) -> Result<(), AllocError>
         ensures ok { OnOk result (self.new ≡ self.old ++ node ∷ []) }
-        ensures trees { OnOk result (build self.new ≡ apply node (build self.old)) }
+        ensures trees { OnOk result (trees_of self.new ≡ apply node (trees_of self.old)) }
         ensures err { OnErr result (self.new ≡ self.old) }
     {
         push(&mut self.nodes, &mut self.starts, node)
@@ -61,7 +62,7 @@ impl Trees {
     /// Takes the last node off, if there is one.
     pub fn pop(&mut self) -> Option<Node>
         ensures some { IfSome result (λ node. self.old ≡ self.new ++ node ∷ []) }
-        ensures trees { IfSome result (λ node. build self.old ≡ apply node (build self.new)) }
+        ensures trees { IfSome result (λ node. trees_of self.old ≡ apply node (trees_of self.new)) }
         ensures none { IfNone result (self.old ≡ []) }
         ensures empty { IfNone result (self.new ≡ []) }
     {
@@ -70,7 +71,8 @@ impl Trees {
 
     /// The node that stands before a place, if one does.
     pub fn node(&self, place: usize) -> Option<&Node>
-        ensures some { IfSome result (λ node. trees_at self.now place ≡ apply node.now (trees_at self.now (place - 1))) }
+        ensures some { IfSome result (λ node. trees_at self.now place
+            ≡ apply node.now (trees_at self.now (place - 1))) }
         ensures inside { IfSome result (λ _. 0 < place) }
         ensures none { IfNone result (place ≤ length self.now → trees_at self.now place ≡ []) }
     {
@@ -153,7 +155,7 @@ fn start_below(nodes: &[Node], starts: &[usize], place: usize) -> usize
 /// The place where so many trees begin that end at the last place.
 fn start_of(nodes: &[Node], starts: &[usize], trees: usize) -> usize
     requires { AreLinked nodes.now starts.now }
-    ensures trees { trees_at nodes.now result ≡ below_times trees (build nodes.now) }
+    ensures trees { trees_at nodes.now result ≡ below_times trees (trees_of nodes.now) }
     ensures before { result ≤ length nodes.now }
 {
     let mut start = nodes.len();
@@ -168,7 +170,7 @@ fn start_of(nodes: &[Node], starts: &[usize], trees: usize) -> usize
 fn push(nodes: &mut Vec<Node>, starts: &mut Vec<usize>, node: Node) -> Result<(), AllocError>
     requires { AreLinked nodes.old.items starts.old.items }
     ensures ok { OnOk result (nodes.new.items ≡ nodes.old.items ++ node ∷ []) }
-    ensures trees { OnOk result (build nodes.new.items ≡ apply node (build nodes.old.items)) }
+    ensures trees { OnOk result (trees_of nodes.new.items ≡ apply node (trees_of nodes.old.items)) }
     ensures err { OnErr result (nodes.new.items ≡ nodes.old.items) }
     ensures linked { AreLinked nodes.new.items starts.new.items }
 {
@@ -184,7 +186,7 @@ fn push(nodes: &mut Vec<Node>, starts: &mut Vec<usize>, node: Node) -> Result<()
 fn pop(nodes: &mut Vec<Node>, starts: &mut Vec<usize>) -> Option<Node>
     requires { AreLinked nodes.old.items starts.old.items }
     ensures some { IfSome result (λ node. nodes.old.items ≡ nodes.new.items ++ node ∷ []) }
-    ensures trees { IfSome result (λ node. build nodes.old.items ≡ apply node (build nodes.new.items)) }
+    ensures trees { IfSome result (λ node. trees_of nodes.old.items ≡ apply node (trees_of nodes.new.items)) }
     ensures none { IfNone result (nodes.old.items ≡ []) }
     ensures empty { IfNone result (nodes.new.items ≡ []) }
     ensures linked { AreLinked nodes.new.items starts.new.items }

@@ -3,7 +3,8 @@ use Rattle.std.proofs.Common.{◌≡◌, ℕ, zero, suc, ◌≤◌, List, [], �
 use Rattle.parse_machine.specs.declared.table.Symbol.{Symbol}
 use Rattle.parse_machine.specs.declared.table.Symbol.TheVariants.{Word, Part, Line, Block}
 use Rattle.parse_machine.specs.declared.table.Token.{Token}
-use Rattle.parse_machine.specs.Grammar.{Production, Is, Holds, Place, inside, leading, Calls, a_part, a_line, a_block, Tree, leaf, word, node}
+use Rattle.parse_machine.specs.Grammar.{Production, Is, Holds, Place, inside, leading, Calls, a_part, a_line, a_block}
+use Rattle.parse_machine.specs.Grammar.{Tree, leaf, word, node}
 use Rattle.parse_machine.specs.Plan.{Plan, Fits, Starts, Orderly, IsPlanned, Lower, AllLower}
 use Rattle.parse_machine.proofs.Stack.{Frame, frame, Reads, finished, closed, a_word, a_node, trees_of}
 use Rattle.parse_machine.proofs.Opening.{Good, Sits}

@@ -1,13 +1,16 @@
 -- What the machine keeps: the stack reads what the tokens that are left must be.
-use Rattle.std.proofs.Common.{◌≡◌, ℕ, List, [], ◌∷◌, ◌++◌, Some, None, refl, sym, ◌∙◌, ap, subst, arith, append_assoc, append-nil}
+use Rattle.std.proofs.Common.{◌≡◌, ℕ, List, [], ◌∷◌, ◌++◌, Some, None, refl, sym, ◌∙◌, ap, subst, arith, append_assoc}
+use Rattle.std.proofs.Common.{append-nil}
 use Rattle.parse_machine.specs.declared.table.Symbol.{Symbol}
 use Rattle.parse_machine.specs.declared.table.Symbol.TheVariants.{Word, Part, Line, Block}
 use Rattle.parse_machine.specs.declared.table.Token.{Token}
 use Rattle.parse_machine.specs.declared.table.Step.{Step}
 use Rattle.parse_machine.specs.declared.table.Step.TheVariants.{Take, Read}
-use Rattle.parse_machine.specs.Grammar.{Spells, Production, Is, Holds, Place, inside, leading, Stands, Calls, Tree, leaf, word, node, IsViable, IsLongest, IsReading, steps_of}
+use Rattle.parse_machine.specs.Grammar.{Spells, Production, Is, Holds, Place, inside, leading, Stands, Calls, Tree}
+use Rattle.parse_machine.specs.Grammar.{leaf, word, node, IsViable, IsLongest, IsReading, steps_of}
 use Rattle.parse_machine.specs.Plan.{Plan, IsPlanned, choice, select, IsNoWord}
-use Rattle.parse_machine.proofs.Stack.{Frame, frame, Reads, finished, closed, a_word, a_node, trees_of, onto, apart, start, reads_of, spelled}
+use Rattle.parse_machine.proofs.Stack.{Frame, frame, Reads, finished, closed, a_word, a_node, trees_of, onto, apart}
+use Rattle.parse_machine.proofs.Stack.{start, reads_of, spelled}
 use Rattle.parse_machine.proofs.Opening.{Good, Sits, good_call}
 use Rattle.parse_machine.proofs.Selection.{Selected, selects, same_production}
 use Rattle.parse_machine.proofs.Completion.{completed}

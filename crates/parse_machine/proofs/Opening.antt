@@ -1,11 +1,14 @@
 -- Where one token decides, it tells which production stands in a derivation.
-use Rattle.std.proofs.Common.{◌≡◌, ℕ, ◌<◌, ◌≤◌, Bool, true, false, cond, nat_lt, nat_eq, List, [], ◌∷◌, Some, None, inl, inr, refl, subst, arith}
+use Rattle.std.proofs.Common.{◌≡◌, ℕ, ◌<◌, ◌≤◌, Bool, true, false, cond, nat_lt, nat_eq, List, [], ◌∷◌, Some, None, inl}
+use Rattle.std.proofs.Common.{inr, refl, subst, arith}
 use Rattle.std.proofs.lemmas.Bool.Decides.{nat_tests}
 use Rattle.parse_machine.specs.declared.table.Symbol.{Symbol}
 use Rattle.parse_machine.specs.declared.table.Symbol.TheVariants.{Part, Line, Block}
 use Rattle.parse_machine.specs.declared.table.Token.{Token}
-use Rattle.parse_machine.specs.Grammar.{Production, Is, Place, inside, leading, Stands, Calls, a_part, a_line, a_block, Tree}
-use Rattle.parse_machine.specs.Plan.{Look, beyond, level, outside, look, Plan, Opens, Full, Vanishes, Follows, After, Precedes, Fits, Starts, Orderly, IsPlanned}
+use Rattle.parse_machine.specs.Grammar.{Production, Is, Place, inside, leading, Stands, Calls, a_part, a_line, a_block}
+use Rattle.parse_machine.specs.Grammar.{Tree}
+use Rattle.parse_machine.specs.Plan.{Look, beyond, level, outside, look, Plan, Opens, Full, Vanishes, Follows, After}
+use Rattle.parse_machine.specs.Plan.{Precedes, Fits, Starts, Orderly, IsPlanned}
 use Rattle.parse_machine.proofs.Stack.{Frame, frame, Reads, closed, a_word, a_node}
 
 pub lt_true : (a b : ℕ) → nat_lt a b ≡ true → a < b

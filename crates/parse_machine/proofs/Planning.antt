@@ -1,13 +1,21 @@
 -- A table that passes the test is a plan.
-use Rattle.std.proofs.Common.{◌≡◌, ℕ, zero, suc, ◌+◌, ◌-◌, ◌/◌, ◌%◌, ◌^◌, ◌<◌, Bool, true, false, cond, not, ◌&&◌, ◌||◌, nat_lt, nat_eq, List, [], ◌∷◌, Option, Some, None, ◌⊎◌, inl, inr, refl, sym, ◌∙◌, ap, subst, arith, length, get_or, slice_get, div-one}
+use Rattle.std.proofs.Common.{◌≡◌, ℕ, zero, suc, ◌+◌, ◌-◌, ◌/◌, ◌%◌, ◌^◌, ◌<◌, Bool, true, false, cond, not, ◌&&◌, ◌||◌}
+use Rattle.std.proofs.Common.{nat_lt, nat_eq, List, [], ◌∷◌, Option, Some, None, ◌⊎◌, inl, inr, refl, sym, ◌∙◌, ap}
+use Rattle.std.proofs.Common.{subst, arith, length, get_or, slice_get, div-one}
 use Rattle.std.proofs.lemmas.Nat.{shr-shr}
 use Rattle.parse_machine.specs.declared.table.Symbol.{Symbol}
 use Rattle.parse_machine.specs.declared.table.Symbol.TheVariants.{Word, Part, Line, Block}
 use Rattle.parse_machine.specs.declared.table.Row.{Row}
 use Rattle.parse_machine.specs.Grammar.{Production, ◌⟶◌, production, Is, leading}
-use Rattle.parse_machine.specs.Plan.{Look, beyond, level, outside, Opens, Full, Vanishes, Follows, After, Precedes, Fits, Starts, Orderly, Ends, IsPlanned, Lower, AllLower, Ranked}
-use Rattle.parse_machine.specs.Rows.{plan_of, number, cell, takes_row, empty_row, follows_row, bits, plain_row, rank_row, short_row, height_row}
-use Rattle.parse_machine.specs.Planned.{Looks, implied, disjoint, marks, equals, has_one, subset, cells, level_cells, empty_cell, followers, is_plain, rank_cell, height_cell, no_cell, openers, takers, allows, vanishing, ahead, full, fits, starts, orderly, ranked, lower, all_lower, heads, rule_planned, rules_planned, is_some_of, is_none_of, is_short_of, all_named, empty_planned, row_planned, rows_planned, planned}
+use Rattle.parse_machine.specs.Plan.{Look, beyond, level, outside, Opens, Full, Vanishes, Follows, After, Precedes}
+use Rattle.parse_machine.specs.Plan.{Fits, Starts, Orderly, Ends, IsPlanned, Lower, AllLower, Ranked}
+use Rattle.parse_machine.specs.Rows.{plan_of, number, cell, takes_row, empty_row, follows_row, bits, plain_row}
+use Rattle.parse_machine.specs.Rows.{rank_row, short_row, height_row}
+use Rattle.parse_machine.specs.Planned.{Looks, implied, disjoint, marks, equals, has_one, subset, cells, level_cells}
+use Rattle.parse_machine.specs.Planned.{empty_cell, followers, is_plain, rank_cell, height_cell, no_cell, openers}
+use Rattle.parse_machine.specs.Planned.{takers, allows, vanishing, ahead, full, fits, starts, orderly, ranked, lower}
+use Rattle.parse_machine.specs.Planned.{all_lower, heads, rule_planned, rules_planned, is_some_of, is_none_of}
+use Rattle.parse_machine.specs.Planned.{is_short_of, all_named, empty_planned, row_planned, rows_planned, planned}
 use Rattle.parse_machine.proofs.Opening.{lt_true, true_lt, eq_true, true_eq, not_eq}
 
 and_true : (a b : Bool) → (a && b) ≡ true → (a ≡ true) × (b ≡ true)

@@ -3,10 +3,12 @@ use Rattle.std.proofs.Common.{◌≡◌, ℕ, zero, suc, ◌≤◌, List, [], �
 use Rattle.parse_machine.specs.declared.table.Symbol.{Symbol}
 use Rattle.parse_machine.specs.declared.table.Symbol.TheVariants.{Word, Part, Line, Block}
 use Rattle.parse_machine.specs.declared.table.Token.{Token}
-use Rattle.parse_machine.specs.Grammar.{Production, Is, Holds, Place, inside, leading, Stands, Calls, a_part, a_line, a_block, Tree, word, node}
+use Rattle.parse_machine.specs.Grammar.{Production, Is, Holds, Place, inside, leading, Stands, Calls, a_part, a_line}
+use Rattle.parse_machine.specs.Grammar.{a_block, Tree, word, node}
 use Rattle.parse_machine.specs.Plan.{Look, beyond, level, outside, look, Plan, Opens, Ranked, IsPlanned}
 use Rattle.parse_machine.proofs.Stack.{Frame, frame, Reads, a_word, a_node, trees_of}
-use Rattle.parse_machine.proofs.Opening.{Good, good_call, Seen, seen_beyond, seen_level, seen_outside, seen, is_level, is_leading}
+use Rattle.parse_machine.proofs.Opening.{Good, good_call, Seen, seen_beyond, seen_level, seen_outside, seen, is_level}
+use Rattle.parse_machine.proofs.Opening.{is_leading}
 use Rattle.parse_machine.proofs.Completion.{Completed, completed}
 
 -- the stack asks for some tokens that begin with t

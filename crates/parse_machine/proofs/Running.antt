@@ -1,5 +1,7 @@
 -- The machine's state, and each of its steps.
-use Rattle.std.proofs.Common.{◌≡◌, ℕ, zero, suc, ◌+◌, ◌<◌, ◌≤◌, Bool, true, false, cond, List, [], ◌∷◌, ◌++◌, Option, Some, None, ◌⊎◌, inl, inr, refl, sym, ◌∙◌, ap, subst, arith, length, nat_eq, get_or, take, append_assoc, append-nil}
+use Rattle.std.proofs.Common.{◌≡◌, ℕ, zero, suc, ◌+◌, ◌<◌, ◌≤◌, Bool, true, false, cond, List, [], ◌∷◌, ◌++◌, Option}
+use Rattle.std.proofs.Common.{Some, None, ◌⊎◌, inl, inr, refl, sym, ◌∙◌, ap, subst, arith, length, nat_eq, get_or, take}
+use Rattle.std.proofs.Common.{append_assoc, append-nil}
 use Rattle.parse_machine.specs.declared.table.Symbol.{Symbol}
 use Rattle.parse_machine.specs.declared.table.Symbol.TheVariants.{Word, Part, Line, Block}
 use Rattle.parse_machine.specs.declared.table.Token.{Token}
@@ -8,15 +10,20 @@ use Rattle.parse_machine.specs.declared.table.Step.TheVariants.{Take, Read}
 use Rattle.parse_machine.specs.declared.table.Rule.{Rule}
 use Rattle.parse_machine.specs.declared.table.Row.{Row}
 use Rattle.parse_machine.specs.declared.machine.Frame as declared
-use Rattle.parse_machine.specs.Grammar.{Production, Is, Holds, Place, inside, Stands, Calls, a_part, a_line, a_block, Tree, Spells, IsViable, IsLongest, IsCommon, IsReading, IsRefused, steps_of, tokens_of}
-use Rattle.parse_machine.specs.Plan.{Plan, IsPlanned, look, Opens, choice, select, Ends, Fits, Full, Ranked, IsNoWord, WordAt}
+use Rattle.parse_machine.specs.Grammar.{Production, Is, Holds, Place, inside, Stands, Calls, a_part, a_line, a_block}
+use Rattle.parse_machine.specs.Grammar.{Tree, Spells, IsViable, IsLongest, IsCommon, IsReading, IsRefused, steps_of}
+use Rattle.parse_machine.specs.Grammar.{tokens_of}
+use Rattle.parse_machine.specs.Plan.{Plan, IsPlanned, look, Opens, choice, select, Ends, Fits, Full, Ranked, IsNoWord}
+use Rattle.parse_machine.specs.Plan.{WordAt}
 use Rattle.parse_machine.specs.Rows.{grammar_of, plan_of, place}
 use Rattle.parse_machine.specs.Stopped.{IsStop, set_aside}
 use Rattle.parse_machine.proofs.Stack.{Frame, frame, Reads, finished, closed, start, spelled}
 use Rattle.parse_machine.proofs.Opening.{Good, true_eq, not_eq}
 use Rattle.parse_machine.proofs.Selection.{Selected, selected, selects_how, selects_none}
 use Rattle.parse_machine.proofs.Reaching.{reaches}
-use Rattle.parse_machine.proofs.Keeping.{Keeps, keeps_start, keeps_closed, keeps_tail, keeps_word, keeps_call, like_self, Refuses, RefusesMore, refuses_call, refuses_word, refuses_more, viable_by, longest_at, read_whole, read_none, steps_so_far}
+use Rattle.parse_machine.proofs.Keeping.{Keeps, keeps_start, keeps_closed, keeps_tail, keeps_word, keeps_call}
+use Rattle.parse_machine.proofs.Keeping.{like_self, Refuses, RefusesMore, refuses_call, refuses_word, refuses_more}
+use Rattle.parse_machine.proofs.Keeping.{viable_by, longest_at, read_whole, read_none, steps_so_far}
 
 abbrev pub frame_of : declared.Frame → Frame
 frame_of f = frame f.rest.now f.column (place f.leading)

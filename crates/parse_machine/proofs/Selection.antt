@@ -1,12 +1,16 @@
 -- What the machine selects is what stands in each derivation.
-use Rattle.std.proofs.Common.{◌≡◌, ℕ, ◌<◌, Bool, true, false, cond, nat_lt, nat_eq, List, [], ◌∷◌, Option, Some, None, ◌⊎◌, inl, inr, refl, sym, ◌∙◌, ap, subst, arith}
+use Rattle.std.proofs.Common.{◌≡◌, ℕ, ◌<◌, Bool, true, false, cond, nat_lt, nat_eq, List, [], ◌∷◌, Option, Some, None}
+use Rattle.std.proofs.Common.{◌⊎◌, inl, inr, refl, sym, ◌∙◌, ap, subst, arith}
 use Rattle.parse_machine.specs.declared.table.Symbol.{Symbol}
 use Rattle.parse_machine.specs.declared.table.Symbol.TheVariants.{Word, Part, Line, Block}
 use Rattle.parse_machine.specs.declared.table.Token.{Token}
-use Rattle.parse_machine.specs.Grammar.{Production, ◌⟶◌, Is, Place, inside, leading, Calls, a_part, a_line, a_block, Tree}
-use Rattle.parse_machine.specs.Plan.{Look, beyond, level, outside, look, Plan, Opens, Fits, IsPlanned, choice, chosen, or_else, select}
+use Rattle.parse_machine.specs.Grammar.{Production, ◌⟶◌, Is, Place, inside, leading, Calls, a_part, a_line, a_block}
+use Rattle.parse_machine.specs.Grammar.{Tree}
+use Rattle.parse_machine.specs.Plan.{Look, beyond, level, outside, look, Plan, Opens, Fits, IsPlanned, choice, chosen}
+use Rattle.parse_machine.specs.Plan.{or_else, select}
 use Rattle.parse_machine.proofs.Stack.{Frame, frame, Reads, closed}
-use Rattle.parse_machine.proofs.Opening.{OpensAt, opens, Good, Seen, seen_beyond, seen_level, seen_outside, seen, is_inside, is_level, lt_true, true_lt, true_eq, eq_true}
+use Rattle.parse_machine.proofs.Opening.{OpensAt, opens, Good, Seen, seen_beyond, seen_level, seen_outside, seen}
+use Rattle.parse_machine.proofs.Opening.{is_inside, is_level, lt_true, true_lt, true_eq, eq_true}
 
 pub same_production : (g : List Production) (p n k : ℕ) (r q : List Symbol) → Is g p n r → Is g p k q →
     (n ≡ k) × (r ≡ q)

@@ -3,7 +3,8 @@ use Rattle.std.proofs.Common.{◌≡◌, ℕ, suc, List, [], ◌∷◌, refl, ap
 use Rattle.parse_machine.specs.declared.table.Symbol.{Symbol}
 use Rattle.parse_machine.specs.declared.table.Symbol.TheVariants.{Word}
 use Rattle.parse_machine.specs.declared.table.Token.{Token}
-use Rattle.parse_machine.specs.Grammar.{Production, Is, Holds, Place, inside, leading, Stands, Calls, Tree, leaf, word, node, Derives, nothing, Spells, steps_of}
+use Rattle.parse_machine.specs.Grammar.{Production, Is, Holds, Place, inside, leading, Stands, Calls, Tree, leaf, word}
+use Rattle.parse_machine.specs.Grammar.{node, Derives, nothing, Spells, steps_of}
 use Rattle.parse_machine.specs.Grammar as grammar
 
 -- what is still to be read, under which column, and where its first token must stand

@@ -1,11 +1,13 @@
 -- What the place where the machine stopped says of the text.
-use Rattle.std.proofs.Common.{◌≡◌, ℕ, Bool, true, false, List, [], ◌∷◌, ◌++◌, refl, sym, ◌∙◌, subst, take, append_assoc, append-nil}
+use Rattle.std.proofs.Common.{◌≡◌, ℕ, Bool, true, false, List, [], ◌∷◌, ◌++◌, refl, sym, ◌∙◌, subst, take, append_assoc}
+use Rattle.std.proofs.Common.{append-nil}
 use Rattle.parse_machine.specs.declared.table.Symbol.{Symbol}
 use Rattle.parse_machine.specs.declared.table.Token.{Token}
 use Rattle.parse_machine.specs.declared.table.Step.{Step}
 use Rattle.parse_machine.specs.declared.fault.Fault.{Fault}
 use Rattle.parse_machine.specs.declared.fault.Fault.TheVariants as fault
-use Rattle.parse_machine.specs.Grammar.{Production, Spells, IsReading, IsRefused, IsLongest, IsFaultAt, IsFront, IsFault, IsFrontFault, HasFault}
+use Rattle.parse_machine.specs.Grammar.{Production, Spells, IsReading, IsRefused, IsLongest, IsFaultAt, IsFront}
+use Rattle.parse_machine.specs.Grammar.{IsFault, IsFrontFault, HasFault}
 use Rattle.parse_machine.specs.Stopped.{IsStop}
 
 refused_whole : (g : List Production) (ss : List Symbol) (c : ℕ) (ts front at : List Token) →

@@ -1,5 +1,6 @@
 -- Whether a table is a plan for a grammar: a test that computes.
-use Rattle.std.specs.Prelude.{ℕ, zero, suc, ◌-◌, Bool, true, false, not, ◌&&◌, ◌||◌, nat_lt, nat_eq, List, [], ◌∷◌, length, slice_get, Option, Some, None}
+use Rattle.std.specs.Prelude.{ℕ, zero, suc, ◌-◌, Bool, true, false, not, ◌&&◌, ◌||◌, nat_lt, nat_eq, List, [], ◌∷◌}
+use Rattle.std.specs.Prelude.{length, slice_get, Option, Some, None}
 use Rattle.parse_machine.specs.declared.table.Symbol.{Symbol}
 use Rattle.parse_machine.specs.declared.table.Symbol.TheVariants.{Word, Part, Line, Block}
 use Rattle.parse_machine.specs.declared.table.Row.{Row}

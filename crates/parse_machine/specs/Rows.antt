@@ -1,5 +1,6 @@
 -- The plan that a table's rows hold.
-use Rattle.std.specs.Prelude.{ℕ, zero, suc, ◌-◌, ◌/◌, ◌%◌, nat_eq, Bool, true, false, cond, ◌==◌, nat_lt, List, [], ◌∷◌, get_or, slice_get, map, Option, Some, None}
+use Rattle.std.specs.Prelude.{ℕ, zero, suc, ◌-◌, ◌/◌, ◌%◌, nat_eq, Bool, true, false, cond, ◌==◌, nat_lt, List, [], ◌∷◌}
+use Rattle.std.specs.Prelude.{get_or, slice_get, map, Option, Some, None}
 use Rattle.parse_machine.specs.declared.table.Token.{Token}
 use Rattle.parse_machine.specs.declared.table.Rule.{Rule}
 use Rattle.parse_machine.specs.declared.table.Row.{Row}

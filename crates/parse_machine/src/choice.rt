@@ -2,7 +2,8 @@
 
 ghost use Rattle.std.specs.Prelude.{◌≡◌, Option, option_map, Some};
 ghost use Rattle.parse_machine.specs.Plan.{look, select};
-ghost use Rattle.parse_machine.specs.Rows.{cell, plan_of, takes_row, place, choice_of, part_row, line_row, own_row, block_row};
+ghost use Rattle.parse_machine.specs.Rows.{cell, plan_of, takes_row, place, choice_of, part_row, line_row, own_row};
+ghost use Rattle.parse_machine.specs.Rows.{block_row};
 
 use crate::table::{Row, Symbol, Token};
 

@@ -1,5 +1,6 @@
 -- One input of a run of which a front part was put.
-use Rattle.std.proofs.Common.{◌≡◌, ℕ, Bool, true, false, List, [], ◌∷◌, ◌++◌, Option, ◌+◌, ◌<◌, length, map, drop, get_or, refl, sym, ap, ◌∙◌, subst, append-nil}
+use Rattle.std.proofs.Common.{◌≡◌, ℕ, Bool, true, false, List, [], ◌∷◌, ◌++◌, Option, ◌+◌, ◌<◌, length, map, drop}
+use Rattle.std.proofs.Common.{get_or, refl, sym, ap, ◌∙◌, subst, append-nil}
 use Rattle.std.proofs.lemmas.List.{drop_more}
 use Rattle.elm_files.specs.Texts.{longer}
 use Rattle.wire_value.specs.Wire.{Wire}
@@ -16,7 +17,8 @@ use Rattle.run_text.specs.View.{input_view}
 use Rattle.run_files.specs.declared.course.Ended.{Ended}
 use Rattle.run_files.specs.declared.course.Ended.TheVariants as ended
 use Rattle.run_files.specs.declared.course.RunEnd.{RunEnd}
-use Rattle.run_files.specs.Steps.{answer_text, start_text, begun_trace, goes_on, is_done, IsBegun, IsRunning, PutsPart, Tells}
+use Rattle.run_files.specs.Steps.{answer_text, start_text, begun_trace, goes_on, is_done, IsBegun, IsRunning, PutsPart}
+use Rattle.run_files.specs.Steps.{Tells}
 use Rattle.run_files.proofs.Answers.{input_on, input_ends, begin_on, begin_ends, begin_agrees, told_same}
 use Rattle.run_files.proofs.Remains.{Remains, at_first, goes_further, all_put, end_at_part}
 

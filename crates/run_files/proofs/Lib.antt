@@ -1,4 +1,8 @@
-pub mod Answers
-pub mod Remains
-pub mod Giving
+-- what a program's text comes to, once it was read
 pub mod Sources
+-- one input of a run of which a front part was put
+pub mod Giving
+-- a run of which a front part was put
+pub mod Remains
+-- what an answer leaves
+pub mod Answers

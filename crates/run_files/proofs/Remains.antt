@@ -1,5 +1,6 @@
 -- A run of which a front part was put: what remains of it.
-use Rattle.std.proofs.Common.{◌≡◌, ℕ, zero, suc, List, [], ◌∷◌, ◌++◌, take, length, Option, Some, None, refl, sym, ap, ◌∙◌, append_assoc, append-nil}
+use Rattle.std.proofs.Common.{◌≡◌, ℕ, zero, suc, List, [], ◌∷◌, ◌++◌, take, length, Option, Some, None, refl, sym, ap}
+use Rattle.std.proofs.Common.{◌∙◌, append_assoc, append-nil}
 use Rattle.elm_files.specs.Texts.{LongerByPart, longer}
 use Rattle.runs.specs.Trace.{Trace}
 use Rattle.run_text.specs.Told.{told_text, is_ready}

@@ -1,7 +1,8 @@
 -- Runs: the outcome of a run over two files, by what they hold and by the fuel.
 use Rattle.std.specs.Prelude.{◌≡◌, ℕ, List, [], true, if◌then◌else◌, MatchBool, Option, Some, None, nat_le, length}
 use Rattle.elm_base.specs.declared.fault.Code.{Code}
-use Rattle.elm_base.specs.declared.fault.Code.TheVariants.{FileMissing, NotElmcOutput, BadInputLine, UnknownPort as unknown_port, GivenFileTooLarge}
+use Rattle.elm_base.specs.declared.fault.Code.TheVariants.{FileMissing, NotElmcOutput, BadInputLine}
+use Rattle.elm_base.specs.declared.fault.Code.TheVariants.{UnknownPort as unknown_port, GivenFileTooLarge}
 use Rattle.elm_base.specs.Fault.{fault_line_of}
 use Rattle.elm_files.specs.Tree.{Tree}
 use Rattle.js_tree.specs.Tree.{Program}

@@ -1,5 +1,6 @@
 -- What the steps of a run put. Only private clauses use this.
-use Rattle.std.specs.Prelude.{◌≡◌, ◌<◌, ◌≤◌, ◌⊎◌, ℕ, List, [], ◌++◌, Bool, true, false, Option, Some, None, IfSome, Result, Ok, Err, nat_le, length, if◌then◌else◌}
+use Rattle.std.specs.Prelude.{◌≡◌, ◌<◌, ◌≤◌, ◌⊎◌, ℕ, List, [], ◌++◌, Bool, true, false, Option, Some, None, IfSome}
+use Rattle.std.specs.Prelude.{Result, Ok, Err, nat_le, length, if◌then◌else◌}
 use Rattle.elm_base.specs.declared.fault.Code.TheVariants.{FileMissing, GivenFileTooLarge}
 use Rattle.elm_files.specs.Texts.{LongerByPart, longer}
 use Rattle.elm_files.specs.Tree.{Tree}
@@ -8,7 +9,8 @@ use Rattle.runs.specs.Trace.{Trace, send_all}
 use Rattle.runs.specs.Driver.{Machine}
 use Rattle.wire_value.specs.Wire.{Wire}
 use Rattle.run_text.specs.Told.{told_text, is_ready, refused_line, last_line, sends_text}
-use Rattle.js_run.specs.Sessions.{Outcome, Done, Refused, Crashed, OutOfFuel, Unsafe, Stuck, Answer, State, Running, Over, last_of, told}
+use Rattle.js_run.specs.Sessions.{Outcome, Done, Refused, Crashed, OutOfFuel, Unsafe, Stuck, Answer, State, Running}
+use Rattle.js_run.specs.Sessions.{Over, last_of, told}
 use Rattle.run_files.specs.Runs as runs
 use Rattle.run_files.specs.RunEnd.{Says, HasCause, IsToldIfRose}
 use Rattle.js_tree.specs.Tree.{Program}

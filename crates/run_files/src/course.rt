@@ -2,7 +2,7 @@
 
 ghost use Rattle.std.specs.Prelude.{◌≡◌, ◌<◌, ◌≤◌, IfErr, IfOk, IfSome, length};
 ghost use Rattle.elm_files.specs.Answers.{NoneFull};
-ghost use Rattle.js_tree.specs.Postorder.{ProgramOf, build, top};
+ghost use Rattle.js_tree.specs.Postorder.{ProgramOf, trees_of, top};
 ghost use Rattle.js_tree.specs.Tree as plain;
 ghost use Rattle.js_code.specs.Program.{program_view};
 ghost use Rattle.js_code.specs.Ports.{names_of};
@@ -10,7 +10,8 @@ ghost use Rattle.run_text.specs.Given.{given};
 ghost use Rattle.run_files.specs.Runs as runs;
 ghost use Rattle.run_files.specs.Runs.{outcome_for};
 ghost use Rattle.run_files.specs.RunEnd.{IsRun, HasCause, IsToldIfRose, LeavesAtEnd, Says};
-ghost use Rattle.run_files.specs.Steps.{file_found, found_view, IsFileEnd, IsRunBy, IsShort, IsStop, OfProgram, OfText, StopsAt};
+ghost use Rattle.run_files.specs.Steps.{file_found, found_view, IsFileEnd, IsRunBy, IsShort, IsStop, OfProgram, OfText};
+ghost use Rattle.run_files.specs.Steps.{StopsAt};
 
 use crate::lines::line_at;
 use crate::session::run_session;
@@ -22,7 +23,7 @@ use elm_files::{FileError, Files, Got, Sink};
 use js_code::load::load;
 use js_code::program::Program;
 use js_reader::{Refusal, read};
-use js_tree::stop_law;
+use js_tree::laws::stop_law;
 use js_tree::trees::Trees;
 use run_text::given::{Given, read_inputs};
 use std::alloc::{AllocError, Global};
@@ -88,7 +89,8 @@ fn read_file<F: Files>(
     limit: u64,
 ) -> Result<Found, RunEnd>
     requires { NoneFull (F.faults files.old) }
-    ensures found { IfOk result (λ found. IfSome (F.tree files.old) (λ tree. found_view found ≡ file_found path.now limit (tree path.now))) }
+    ensures found { IfOk result (λ found. IfSome (F.tree files.old)
+        (λ tree. found_view found ≡ file_found path.now limit (tree path.now))) }
     ensures short { IfOk result (IsShort limit) }
     ensures keeps { F.tree files.new ≡ F.tree files.old }
     ensures no_fault { IfOk result (λ _. F.faults files.new ≡ F.faults files.old) }
@@ -122,9 +124,12 @@ fn run_given<'t, O: Sink>(
 ) -> Result<Ended, RunEnd>
     requires short { length text.now ≤ 4194304 }
     requires out { O.faults out.old < 18446744073709551615 }
-    ensures said { IfOk result (λ ended. Says ended (outcome_for (program_view program.now) fuel path.now (given (names_of (program_view program.now).ins) text.now)) (O.text out.old) (O.text out.new)) }
+    ensures said { IfOk result (λ ended. Says ended (outcome_for (program_view program.now) fuel path.now
+        (given (names_of (program_view program.now).ins) text.now)) (O.text out.old) (O.text out.new)) }
     ensures no_fault { IfOk result (λ _. O.faults out.new ≡ O.faults out.old) }
-    ensures part { IfErr result (λ end. StopsAt end (outcome_for (program_view program.now) fuel path.now (given (names_of (program_view program.now).ins) text.now)) (O.text out.old) (O.text out.new) (O.faults out.old) (O.faults out.new)) }
+    ensures part { IfErr result (λ end. StopsAt end (outcome_for (program_view program.now) fuel path.now
+        (given (names_of (program_view program.now).ins) text.now)) (O.text out.old) (O.text out.new)
+        (O.faults out.old) (O.faults out.new)) }
 {
     match read_inputs(alloc, text, program.ins)? {
         Given::BadLine(row) => {
@@ -155,10 +160,14 @@ fn run_program<'t, F: Files, O: Sink>(
 ) -> Result<Ended, RunEnd>
     requires files { NoneFull (F.faults files.old) }
     requires out { O.faults out.old < 18446744073709551615 }
-    ensures ran { IfOk result (λ ended. IsRunBy (F.tree files.old) (OfProgram (program_view program.now) fuel inputs.now) (O.text out.old) (O.text out.new) ended) }
+    ensures ran { IfOk result (λ ended. IsRunBy (F.tree files.old)
+        (OfProgram (program_view program.now) fuel inputs.now) (O.text out.old) (O.text out.new) ended) }
     ensures keeps { F.tree files.new ≡ F.tree files.old }
-    ensures no_fault { IfOk result (λ _. (F.faults files.new ≡ F.faults files.old) × (O.faults out.new ≡ O.faults out.old)) }
-    ensures stopped { IfErr result (λ end. IsStop end (F.tree files.old) (OfProgram (program_view program.now) fuel inputs.now) (O.text out.old) (O.text out.new) (F.faults files.old) (F.faults files.new) (O.faults out.old) (O.faults out.new)) }
+    ensures no_fault { IfOk result (λ _. (F.faults files.new ≡ F.faults files.old)
+        × (O.faults out.new ≡ O.faults out.old)) }
+    ensures stopped { IfErr result (λ end. IsStop end (F.tree files.old)
+        (OfProgram (program_view program.now) fuel inputs.now) (O.text out.old) (O.text out.new) (F.faults files.old)
+        (F.faults files.new) (O.faults out.old) (O.faults out.new)) }
 {
     match read_file(alloc, files, inputs, MAX_INPUTS)? {
         Found::Refused(line) => Ok(Ended::Refused(line)),
@@ -177,10 +186,14 @@ fn run_trees<F: Files, O: Sink>(
 ) -> Result<Ended, RunEnd>
     requires files { NoneFull (F.faults files.old) }
     requires out { O.faults out.old < 18446744073709551615 }
-    ensures ran { IfOk result (λ ended. (p : plain.Program) → top (build trees.now) ≡ ProgramOf p → IsRunBy (F.tree files.old) (OfProgram p fuel inputs.now) (O.text out.old) (O.text out.new) ended) }
+    ensures ran { IfOk result (λ ended. (p : plain.Program) → top (trees_of trees.now) ≡ ProgramOf p
+        → IsRunBy (F.tree files.old) (OfProgram p fuel inputs.now) (O.text out.old) (O.text out.new) ended) }
     ensures keeps { F.tree files.new ≡ F.tree files.old }
-    ensures no_fault { IfOk result (λ _. (F.faults files.new ≡ F.faults files.old) × (O.faults out.new ≡ O.faults out.old)) }
-    ensures stopped { IfErr result (λ end. (p : plain.Program) → top (build trees.now) ≡ ProgramOf p → IsStop end (F.tree files.old) (OfProgram p fuel inputs.now) (O.text out.old) (O.text out.new) (F.faults files.old) (F.faults files.new) (O.faults out.old) (O.faults out.new)) }
+    ensures no_fault { IfOk result (λ _. (F.faults files.new ≡ F.faults files.old)
+        × (O.faults out.new ≡ O.faults out.old)) }
+    ensures stopped { IfErr result (λ end. (p : plain.Program) → top (trees_of trees.now) ≡ ProgramOf p
+        → IsStop end (F.tree files.old) (OfProgram p fuel inputs.now) (O.text out.old) (O.text out.new)
+        (F.faults files.old) (F.faults files.new) (O.faults out.old) (O.faults out.new)) }
 {
     let bump = Bump::new(alloc);
     match load(alloc, &bump, trees)? {
@@ -203,10 +216,14 @@ fn run_source<F: Files, O: Sink>(
     requires short { length text.now ≤ 67108864 }
     requires files { NoneFull (F.faults files.old) }
     requires out { O.faults out.old < 18446744073709551615 }
-    ensures ran { IfOk result (λ ended. IsRunBy (F.tree files.old) (OfText program.now text.now fuel inputs.now) (O.text out.old) (O.text out.new) ended) }
+    ensures ran { IfOk result (λ ended. IsRunBy (F.tree files.old) (OfText program.now text.now fuel inputs.now)
+        (O.text out.old) (O.text out.new) ended) }
     ensures keeps { F.tree files.new ≡ F.tree files.old }
-    ensures no_fault { IfOk result (λ _. (F.faults files.new ≡ F.faults files.old) × (O.faults out.new ≡ O.faults out.old)) }
-    ensures stopped { IfErr result (λ end. IsStop end (F.tree files.old) (OfText program.now text.now fuel inputs.now) (O.text out.old) (O.text out.new) (F.faults files.old) (F.faults files.new) (O.faults out.old) (O.faults out.new)) }
+    ensures no_fault { IfOk result (λ _. (F.faults files.new ≡ F.faults files.old)
+        × (O.faults out.new ≡ O.faults out.old)) }
+    ensures stopped { IfErr result (λ end. IsStop end (F.tree files.old) (OfText program.now text.now fuel inputs.now)
+        (O.text out.old) (O.text out.new) (F.faults files.old) (F.faults files.new) (O.faults out.old)
+        (O.faults out.new)) }
 {
     stop_law();
     match read(alloc, text) {
@@ -236,14 +253,19 @@ pub fn run<F: Files, O: Sink>(
     requires out { O.faults out.old < 18446744073709551615 }
 
     // The outcome, what the run puts, and what it leaves.
-    ensures ran { IfOk result (λ ended. IsRun (F.tree files.old) program.now inputs.now fuel (O.text out.old) (O.text out.new) ended) }
+    ensures ran { IfOk result (λ ended. IsRun (F.tree files.old) program.now inputs.now fuel (O.text out.old)
+        (O.text out.new) ended) }
     ensures keeps { F.tree files.new ≡ F.tree files.old }
-    ensures no_fault { IfOk result (λ _. (F.faults files.new ≡ F.faults files.old) × (O.faults out.new ≡ O.faults out.old)) }
+    ensures no_fault { IfOk result (λ _. (F.faults files.new ≡ F.faults files.old)
+        × (O.faults out.new ≡ O.faults out.old)) }
 
     // Why there is no outcome, and what the run leaves then.
-    ensures cause { IfErr result (λ end. HasCause end (F.faults files.old) (F.faults files.new) (O.faults out.old) (O.faults out.new)) }
-    ensures told { IfErr result (λ end. IsToldIfRose end (F.faults files.old) (F.faults files.new) (O.faults out.old) (O.faults out.new)) }
-    ensures part { IfErr result (λ end. LeavesAtEnd end (F.tree files.old) program.now inputs.now fuel (O.text out.old) (O.text out.new)) }
+    ensures cause { IfErr result (λ end. HasCause end (F.faults files.old) (F.faults files.new) (O.faults out.old)
+        (O.faults out.new)) }
+    ensures told { IfErr result (λ end. IsToldIfRose end (F.faults files.old) (F.faults files.new) (O.faults out.old)
+        (O.faults out.new)) }
+    ensures part { IfErr result (λ end. LeavesAtEnd end (F.tree files.old) program.now inputs.now fuel
+        (O.text out.old) (O.text out.new)) }
 {
     match read_file(alloc, files, program, MAX_PROGRAM)? {
         Found::Refused(line) => Ok(Ended::Refused(line)),

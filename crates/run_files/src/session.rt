@@ -9,7 +9,8 @@ ghost use Rattle.js_run.specs.Sessions.{answer_input, told};
 ghost use Rattle.js_run.specs.Views.{answer_view, app_view, end_view, machine_of};
 ghost use Rattle.run_text.specs.Told.{told_text};
 ghost use Rattle.run_text.specs.View.{input_view};
-ghost use Rattle.run_files.specs.Steps.{answer_text, begun_trace, goes_on, is_done, IsBegun, IsRunning, PutsPart, Tells};
+ghost use Rattle.run_files.specs.Steps.{answer_text, begun_trace, goes_on, is_done, IsBegun, IsRunning, PutsPart};
+ghost use Rattle.run_files.specs.Steps.{Tells};
 
 use crate::course::{Ended, RunEnd};
 use crate::lines::{input_lines, start_lines};
@@ -46,7 +47,8 @@ fn put<O: Sink>(out: &mut O, lines: &[u8]) -> Result<(), RunEnd>
     requires { O.faults out.old < 18446744073709551615 }
     ensures ok { OnOk result (O.text out.new ≡ longer (O.text out.old) lines.now) }
     ensures no_fault { OnOk result (O.faults out.new ≡ O.faults out.old) }
-    ensures part { IfErr result (λ end. PutsPart end lines.now (O.text out.old) (O.text out.new) (O.faults out.old) (O.faults out.new)) }
+    ensures part { IfErr result (λ end. PutsPart end lines.now (O.text out.old) (O.text out.new) (O.faults out.old)
+        (O.faults out.new)) }
 {
     match out.put(lines) {
         Ok(()) => Ok(()),
@@ -65,12 +67,18 @@ fn give<'t, O: Sink>(
     fuel: u32,
 ) -> Result<bool, RunEnd>
     requires { O.faults out.old < 18446744073709551615 }
-    ensures app { IfOk result (λ on. app_view app.new ≡ (answer_input (machine_of app.old) fuel (input_view given.now) (app_view app.old)).0) }
-    ensures on { IfOk result (λ on. on ≡ goes_on (answer_input (machine_of app.old) fuel (input_view given.now) (app_view app.old)).1.1) }
-    ensures text { IfOk result (λ on. O.text out.new ≡ longer (O.text out.old) (answer_text given.now.port (answer_input (machine_of app.old) fuel (input_view given.now) (app_view app.old)).1)) }
+    ensures app { IfOk result (λ on. app_view app.new ≡ (answer_input (machine_of app.old) fuel (input_view given.now)
+        (app_view app.old)).0) }
+    ensures on { IfOk result (λ on. on ≡ goes_on (answer_input (machine_of app.old) fuel (input_view given.now)
+        (app_view app.old)).1.1) }
+    ensures text { IfOk result (λ on. O.text out.new ≡ longer (O.text out.old)
+        (answer_text given.now.port (answer_input (machine_of app.old) fuel (input_view given.now)
+        (app_view app.old)).1)) }
     ensures keeps { machine_of app.new ≡ machine_of app.old }
     ensures no_fault { IfOk result (λ _. O.faults out.new ≡ O.faults out.old) }
-    ensures part { IfErr result (λ end. PutsPart end (answer_text given.now.port (answer_input (machine_of app.old) fuel (input_view given.now) (app_view app.old)).1) (O.text out.old) (O.text out.new) (O.faults out.old) (O.faults out.new)) }
+    ensures part { IfErr result (λ end. PutsPart end (answer_text given.now.port
+        (answer_input (machine_of app.old) fuel (input_view given.now) (app_view app.old)).1) (O.text out.old)
+        (O.text out.new) (O.faults out.old) (O.faults out.new)) }
 {
     let answer = input(alloc, app, given.port.as_slice(), &given.value, fuel)?;
     let lines = input_lines(alloc, given.port.as_slice(), &answer)?;
@@ -88,9 +96,12 @@ fn give_all<'t, O: Sink>(
 ) -> Result<Ended, RunEnd>
     requires running { IsRunning (app_view app.old) }
     requires out { O.faults out.old < 18446744073709551615 }
-    ensures told { IfOk result (λ ended. Tells ended (told (machine_of app.old) fuel (map input_view inputs.now) (app_view app.old)) (O.text out.old) (O.text out.new)) }
+    ensures told { IfOk result (λ ended. Tells ended (told (machine_of app.old) fuel (map input_view inputs.now)
+        (app_view app.old)) (O.text out.old) (O.text out.new)) }
     ensures no_fault { IfOk result (λ _. O.faults out.new ≡ O.faults out.old) }
-    ensures part { IfErr result (λ end. PutsPart end (told_text (told (machine_of app.old) fuel (map input_view inputs.now) (app_view app.old))) (O.text out.old) (O.text out.new) (O.faults out.old) (O.faults out.new)) }
+    ensures part { IfErr result (λ end. PutsPart end (told_text
+        (told (machine_of app.old) fuel (map input_view inputs.now) (app_view app.old))) (O.text out.old)
+        (O.text out.new) (O.faults out.old) (O.faults out.new)) }
 {
     for given in inputs {
         match give(alloc, app, out, given, fuel) {
@@ -114,9 +125,12 @@ fn go_on<'t, O: Sink>(
 ) -> Result<Ended, RunEnd>
     requires begun { IsBegun (app_view app.old) (answer_view answer.now).1 }
     requires out { O.faults out.old < 18446744073709551615 }
-    ensures told { IfOk result (λ ended. Tells ended (begun_trace (machine_of app.old) fuel (map input_view inputs.now) (app_view app.old) (answer_view answer.now).0) (O.text out.old) (O.text out.new)) }
+    ensures told { IfOk result (λ ended. Tells ended (begun_trace (machine_of app.old) fuel
+        (map input_view inputs.now) (app_view app.old) (answer_view answer.now).0) (O.text out.old) (O.text out.new)) }
     ensures no_fault { IfOk result (λ _. O.faults out.new ≡ O.faults out.old) }
-    ensures part { IfErr result (λ end. PutsPart end (told_text (begun_trace (machine_of app.old) fuel (map input_view inputs.now) (app_view app.old) (answer_view answer.now).0)) (O.text out.old) (O.text out.new) (O.faults out.old) (O.faults out.new)) }
+    ensures part { IfErr result (λ end. PutsPart end (told_text
+        (begun_trace (machine_of app.old) fuel (map input_view inputs.now) (app_view app.old)
+        (answer_view answer.now).0)) (O.text out.old) (O.text out.new) (O.faults out.old) (O.faults out.new)) }
 {
     let lines = start_lines(alloc, answer)?;
     if let Err(end) = put(out, &lines) {
@@ -140,9 +154,12 @@ pub fn run_session<'t, O: Sink>(
     fuel: u32,
 ) -> Result<Ended, RunEnd>
     requires { O.faults out.old < 18446744073709551615 }
-    ensures told { IfOk result (λ ended. Tells ended (JsRun (program_view program.now) (wire_view flags.now) (map input_view inputs.now) fuel) (O.text out.old) (O.text out.new)) }
+    ensures told { IfOk result (λ ended. Tells ended (JsRun (program_view program.now) (wire_view flags.now)
+        (map input_view inputs.now) fuel) (O.text out.old) (O.text out.new)) }
     ensures no_fault { IfOk result (λ _. O.faults out.new ≡ O.faults out.old) }
-    ensures part { IfErr result (λ end. PutsPart end (told_text (JsRun (program_view program.now) (wire_view flags.now) (map input_view inputs.now) fuel)) (O.text out.old) (O.text out.new) (O.faults out.old) (O.faults out.new)) }
+    ensures part { IfErr result (λ end. PutsPart end (told_text
+        (JsRun (program_view program.now) (wire_view flags.now) (map input_view inputs.now) fuel)) (O.text out.old)
+        (O.text out.new) (O.faults out.old) (O.faults out.new)) }
 {
     laws();
     let (mut app, answer) = start(alloc, bump, program, flags, fuel)?;

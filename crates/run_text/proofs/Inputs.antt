@@ -1,12 +1,14 @@
 -- What a line gives, and lines one after the other.
-use Rattle.std.proofs.Common.{◌≡◌, ℕ, ◌+◌, Bool, true, false, ◌&&◌, List, [], ◌∷◌, ◌++◌, Option, Some, None, option_map, if◌then◌else◌, refl, sym, ap, ◌∙◌, subst, ◌<◌, length, arith}
+use Rattle.std.proofs.Common.{◌≡◌, ℕ, ◌+◌, Bool, true, false, ◌&&◌, List, [], ◌∷◌, ◌++◌, Option, Some, None, option_map}
+use Rattle.std.proofs.Common.{if◌then◌else◌, refl, sym, ap, ◌∙◌, subst, ◌<◌, length, arith}
 use Rattle.std.specs.List.{list_any}
 use Rattle.std.specs.Str.{is_utf8, IsUtf8}
 use Rattle.std.proofs.lemmas.Str.{IsUtf8-from_is_utf8, is_utf8-from_IsUtf8}
 use Rattle.wire_value.specs.Wire.{Wire}
 use Rattle.elm_base.specs.Units.{text_units}
 use Rattle.wire_json.specs.FromJson.{from_bytes}
-use Rattle.run_text.specs.Given.{Input, Given, BadLine, UnknownPort, Inputs, lines_of, input_of, is_blank, port_in, json_in, is_some_text, more_input, inputs_from}
+use Rattle.run_text.specs.Given.{Input, Given, BadLine, UnknownPort, Inputs, lines_of, input_of, is_blank, port_in}
+use Rattle.run_text.specs.Given.{json_in, is_some_text, more_input, inputs_from}
 use Rattle.run_text.specs.View.{input_view}
 use Rattle.run_text.specs.Lines.{halves_of, line_given, Reads, inputs_before, IsReadTo}
 use Rattle.elm_base.specs.declared.text.Text.{Text}

@@ -1,2 +1,4 @@
-pub mod Cutting
+-- what a line gives, and lines one after the other
 pub mod Inputs
+-- where texts are cut
+pub mod Cutting

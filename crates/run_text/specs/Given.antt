@@ -1,5 +1,6 @@
 -- The text of the inputs of a run: a line with the flags in JSON, and then a line `PORT JSON` for each input.
-use Rattle.std.specs.Prelude.{ℕ, ◌+◌, List, [], ◌∷◌, Bool, true, false, ◌&&◌, ◌==◌, if◌then◌else◌, Option, Some, None, option_map}
+use Rattle.std.specs.Prelude.{ℕ, ◌+◌, List, [], ◌∷◌, Bool, true, false, ◌&&◌, ◌==◌, if◌then◌else◌, Option, Some, None}
+use Rattle.std.specs.Prelude.{option_map}
 use Rattle.std.specs.List.{before_first, after_first, onto_first, list_any}
 use Rattle.std.specs.Str.{is_utf8}
 use Rattle.wire_value.specs.Wire.{Wire}

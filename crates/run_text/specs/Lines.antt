@@ -3,7 +3,8 @@ use Rattle.std.specs.Prelude.{◌≡◌, ℕ, List, [], ◌∷◌, if◌then◌e
 use Rattle.std.specs.List.{list_any}
 use denote.Ref.{Bor}
 use Rattle.wire_value.specs.Wire.{Wire}
-use Rattle.run_text.specs.Given.{Input, Given, BadLine, UnknownPort, Inputs, lines_of, input_of, is_blank, port_in, json_in, at_line, more_input, inputs_from}
+use Rattle.run_text.specs.Given.{Input, Given, BadLine, UnknownPort, Inputs, lines_of, input_of, is_blank, port_in}
+use Rattle.run_text.specs.Given.{json_in, at_line, more_input, inputs_from}
 use Rattle.run_text.specs.View.{input_view}
 use Rattle.run_text.specs.declared.given.Line as line
 use Rattle.run_text.specs.declared.given.Rest as rest

@@ -4,7 +4,8 @@ use Rattle.std.specs.Prelude.{ℕ, List, [], ◌∷◌, ◌++◌, Bool, true, fa
 use Rattle.std.specs.Char.Utf16.{utf16_lossy_chars}
 use Rattle.wire_value.specs.Wire.{Wire}
 use Rattle.wire_json.specs.Text.{wire_text, text_text}
-use Rattle.runs.specs.Trace.{Event, Sent, TurnedAway, Last, Ready, FlagsRefused, Crashed, OutOfFuel, Unsafe, Stuck, Trace, Ends, Then}
+use Rattle.runs.specs.Trace.{Event, Sent, TurnedAway, Last, Ready, FlagsRefused, Crashed, OutOfFuel, Unsafe, Stuck}
+use Rattle.runs.specs.Trace.{Trace, Ends, Then}
 
 -- the name of a port in UTF-8, with U+FFFD for a lone surrogate, as an engine prints it (WHATWG Encoding, 8.2, UTF-8
 -- encode)

@@ -2,10 +2,13 @@
 use Rattle.std.proofs.Common.{◌≡◌, ℕ, zero, suc, ◌+◌, ◌≤◌, List, [], ◌∷◌, ◌⊎◌, inl, inr, refl, sym, ◌∙◌, subst, arith}
 use Rattle.wire_value.specs.Wire.{Wire}
 use Rattle.runs.specs.Ends.{End, Metered, MVal, MCrashed, MOutOfFuel, with_budget}
-use Rattle.runs.specs.Trace.{Crashed, OutOfFuel, Trace, Ends, Covers, cut_off, same_last, same_event, SameRun, IsClaimed, send_all}
-use Rattle.runs.specs.Driver.{Stage, Start, Heard, Machine, go_on, at_stage, deliver, take_in, drive, begin, run, Nested, metered}
+use Rattle.runs.specs.Trace.{Crashed, OutOfFuel, Trace, Ends, Covers, cut_off, same_last, same_event, SameRun}
+use Rattle.runs.specs.Trace.{IsClaimed, send_all}
+use Rattle.runs.specs.Driver.{Stage, Start, Heard, Machine, go_on, at_stage, deliver, take_in, drive, begin, run}
+use Rattle.runs.specs.Driver.{Nested, metered}
 use Rattle.runs.specs.Pay.{pay, Run, Spends, Follows, gives, crashes, starves, unclaimed_unsafe, unclaimed_stuck}
-use Rattle.runs.specs.Alike.{AllAlike, none_alike, more_alike, StageAlike, at_alike, StartAlike, wrong_flags, started, HeardAlike, wrong_input, heard_by, IsAlike}
+use Rattle.runs.specs.Alike.{AllAlike, none_alike, more_alike, StageAlike, at_alike, StartAlike, wrong_flags, started}
+use Rattle.runs.specs.Alike.{HeardAlike, wrong_input, heard_by, IsAlike}
 
 -- a budget that is enough, with what is left of it
 pay_left : {A : Type 0} (c m : ℕ) (t : ℕ → Metered A) → c ≤ m → (r : ℕ) × (c + r ≡ m) × (pay c m t ≡ t r)

@@ -1,6 +1,7 @@
 -- Stretches of metered runs, and how a metered run follows a nested one: one after the other, and after a call.
 use Rattle.std.proofs.Common.{◌≡◌, ℕ, zero, suc, ◌≤◌, ◌⊎◌, inl, inr, refl, ap, ◌∙◌, arith}
-use Rattle.runs.specs.Ends.{End, Val, Crashed, OutOfFuel, Unsafe, Stuck, then_do, Metered, MVal, MCrashed, MOutOfFuel, and_then, with_budget}
+use Rattle.runs.specs.Ends.{End, Val, Crashed, OutOfFuel, Unsafe, Stuck, then_do, Metered, MVal, MCrashed, MOutOfFuel}
+use Rattle.runs.specs.Ends.{and_then, with_budget}
 use Rattle.runs.specs.Pay.{pay, Run, Spends, Follows, gives, crashes, starves, unclaimed_unsafe, unclaimed_stuck}
 
 -- what comes after a payment is paid for as well

@@ -1,4 +1,8 @@
-pub mod Printing
-pub mod Depths
-pub mod Converting
+-- what bytes spell, by whether they are UTF-8
 pub mod Reading
+-- items and members, one on
+pub mod Converting
+-- room for so many levels is a bound on the depth
+pub mod Depths
+-- what a step of the printer leaves
+pub mod Printing

@@ -1,5 +1,7 @@
 -- What a step of the printer leaves.
-use Rattle.std.proofs.Common.{◌≡◌, ℕ, suc, ◌+◌, ◌<◌, ◌≤◌, List, [], ◌∷◌, ◌++◌, length, map, codes, OnOk, Result, Ok, Err, refl, sym, ap, ◌∙◌, append_assoc, append-nil, arith, rules, if◌then◌else◌, Bool, false, ◌==◌, Bor}
+use Rattle.std.proofs.Common.{◌≡◌, ℕ, suc, ◌+◌, ◌<◌, ◌≤◌, List, [], ◌∷◌, ◌++◌, length, map, codes, OnOk, Result, Ok}
+use Rattle.std.proofs.Common.{Err, refl, sym, ap, ◌∙◌, append_assoc, append-nil, arith, rules, if◌then◌else◌, Bool}
+use Rattle.std.proofs.Common.{false, ◌==◌, Bor}
 use Rattle.std.specs.Result.{is_ok}
 use Rattle.std.proofs.lemmas.Bool.Decides.{nat_tests}
 use Rattle.wire_value.specs.Wire.{Wire}
@@ -9,7 +11,8 @@ use Rattle.wire_value.specs.declared.wire.Member as member
 use Rattle.wire_json.specs.Text.{wire_text, wires_text, later_wires_text, members_text, later_members_text, text_text}
 use Rattle.wire_json.specs.declared.task.Task.{Task}
 use Rattle.wire_json.specs.declared.task.Task.TheVariants as task
-use Rattle.wire_json.specs.Tasks.{task_text, left_text, wire_weight, wires_weight, members_weight, task_weight, tasks_weight, Leaves}
+use Rattle.wire_json.specs.Tasks.{task_text, left_text, wire_weight, wires_weight, members_weight, task_weight}
+use Rattle.wire_json.specs.Tasks.{tasks_weight, Leaves}
 
 left_text-append : (ts us : List Task) → left_text (ts ++ us) ≡ left_text us ++ left_text ts
 left_text-append [] us = sym (append-nil (left_text us))

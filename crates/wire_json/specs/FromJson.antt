@@ -4,7 +4,8 @@ use Rattle.std.specs.Prelude.{ℕ, ℤ, List, nat_le, if◌then◌else◌, Optio
 use Rattle.std.specs.Ordering.{nat_cmp, match_ordering}
 use Rattle.std.specs.Cmp.Lexicographic.{slice_cmp}
 use Rattle.std.specs.Str.{is_utf8}
-use Rattle.serde_json.specs.Data.{Data, null, boolean, number, string, array, object, Items, no_items, item, Members, no_members, member, Num, depth}
+use Rattle.serde_json.specs.Data.{Data, null, boolean, number, string, array, object, Items, no_items, item, Members}
+use Rattle.serde_json.specs.Data.{no_members, member, Num, depth}
 use Rattle.serde_json.specs.Find.{as_integer}
 use Rattle.serde_json.specs.Read.{read}
 use Rattle.wire_value.specs.Exact.{is_exact}

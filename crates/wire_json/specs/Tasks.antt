@@ -1,6 +1,7 @@
 -- What a task is to write, how much that is, and what a step leaves.
 use Rattle.std.specs.Prelude.{◌≡◌, ℕ, suc, ◌+◌, ◌<◌, List, [], ◌∷◌, ◌++◌, map, codes}
-use Rattle.wire_value.specs.Wire.{Wire, null, bool, int, text, list, object, Wires, no_wire, more_wires, Members, no_member, more_members}
+use Rattle.wire_value.specs.Wire.{Wire, null, bool, int, text, list, object, Wires, no_wire, more_wires, Members}
+use Rattle.wire_value.specs.Wire.{no_member, more_members}
 use Rattle.wire_value.specs.View.{wires_of, members_of, wire_view, member_view}
 use Rattle.wire_json.specs.Text.{wire_text, later_wires_text, later_members_text}
 use Rattle.wire_json.specs.declared.task.Task.{Task}

@@ -1,7 +1,8 @@
 -- A wire value as JSON (RFC 8259) without blanks, all in ASCII.
 use Rattle.std.specs.Prelude.{ℕ, suc, ℤ, pos, negsuc, List, [], ◌∷◌, ◌++◌, Bool, true, false, codes, decimal}
 pub use Rattle.elm_base.specs.Quoted.{text_text}
-use Rattle.wire_value.specs.Wire.{Wire, null, bool, int, text, list, object, Wires, no_wire, more_wires, Members, no_member, more_members}
+use Rattle.wire_value.specs.Wire.{Wire, null, bool, int, text, list, object, Wires, no_wire, more_wires, Members}
+use Rattle.wire_value.specs.Wire.{no_member, more_members}
 
 -- a whole number in decimal (RFC 8259, 6)
 abbrev pub int_text : ℤ → List ℕ

@@ -1,6 +1,7 @@
 -- A value in which arrays and objects may nest so deep; for private clauses.
 use Rattle.std.specs.Prelude.{ℕ, zero, suc, List, map, Option, Some, None, option_map, option_and_then}
-use Rattle.serde_json.specs.Data.{Data, null, boolean, number, string, array, object, Items, no_items, item, Members, no_members, member}
+use Rattle.serde_json.specs.Data.{Data, null, boolean, number, string, array, object, Items, no_items, item, Members}
+use Rattle.serde_json.specs.Data.{no_members, member}
 use Rattle.wire_value.specs.Wire as wire
 use Rattle.wire_value.specs.Wire.{Wire}
 use Rattle.wire_value.specs.View as value

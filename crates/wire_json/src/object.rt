@@ -16,7 +16,8 @@ pub fn put_object<'a>(
     tasks: &mut Vec<Task<'a>>,
     members: &'a [Member],
 ) -> Result<(), AllocError>
-    ensures { OnOk result (Leaves (members_text (members_of (map member_view members.now)) ++ codes "}") (members_weight (members_of (map member_view members.now)))
+    ensures { OnOk result (Leaves (members_text (members_of (map member_view members.now)) ++ codes "}")
+        (members_weight (members_of (map member_view members.now)))
         text.old.items tasks.old.items text.new.items tasks.new.items) }
 {
     let Some((first, rest)) = members.split_first() else {
@@ -35,7 +36,8 @@ pub fn put_members<'a>(
     tasks: &mut Vec<Task<'a>>,
     members: &'a [Member],
 ) -> Result<(), AllocError>
-    ensures { OnOk result (Leaves (task_text (Task.Members members.entry)) (task_weight (Task.Members members.entry)) text.old.items tasks.old.items text.new.items tasks.new.items) }
+    ensures { OnOk result (Leaves (task_text (Task.Members members.entry))
+        (task_weight (Task.Members members.entry)) text.old.items tasks.old.items text.new.items tasks.new.items) }
 {
     if !members.is_empty() {
         text.push(b',')?;

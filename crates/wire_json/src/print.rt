@@ -31,7 +31,8 @@ fn put_task<'a>(
     tasks: &mut Vec<Task<'a>>,
     task: Task<'a>,
 ) -> Result<(), AllocError>
-    ensures { OnOk result (Leaves (task_text task.entry) (task_weight task.entry) text.old.items tasks.old.items text.new.items tasks.new.items) }
+    ensures { OnOk result (Leaves (task_text task.entry)
+        (task_weight task.entry) text.old.items tasks.old.items text.new.items tasks.new.items) }
 {
     match task {
         Task::Value(wire) => put_value(text, tasks, wire),
@@ -46,7 +47,8 @@ fn put_value<'a>(
     tasks: &mut Vec<Task<'a>>,
     wire: &'a Wire,
 ) -> Result<(), AllocError>
-    ensures { OnOk result (Leaves (wire_text (wire_view wire.now)) (wire_weight (wire_view wire.now)) text.old.items tasks.old.items text.new.items tasks.new.items) }
+    ensures { OnOk result (Leaves (wire_text (wire_view wire.now))
+        (wire_weight (wire_view wire.now)) text.old.items tasks.old.items text.new.items tasks.new.items) }
 {
     match wire {
         Wire::Null => text.extend_from_slice(b"null"),
@@ -70,7 +72,8 @@ fn put_list<'a>(
     tasks: &mut Vec<Task<'a>>,
     items: &'a [Wire],
 ) -> Result<(), AllocError>
-    ensures { OnOk result (Leaves (wires_text (wires_of (map wire_view items.now)) ++ codes "]") (wires_weight (wires_of (map wire_view items.now)))
+    ensures { OnOk result (Leaves (wires_text (wires_of (map wire_view items.now)) ++ codes "]")
+        (wires_weight (wires_of (map wire_view items.now)))
         text.old.items tasks.old.items text.new.items tasks.new.items) }
 {
     let Some((first, rest)) = items.split_first() else {
@@ -87,7 +90,8 @@ fn put_items<'a>(
     tasks: &mut Vec<Task<'a>>,
     items: &'a [Wire],
 ) -> Result<(), AllocError>
-    ensures { OnOk result (Leaves (task_text (Task.Items items.entry)) (task_weight (Task.Items items.entry)) text.old.items tasks.old.items text.new.items tasks.new.items) }
+    ensures { OnOk result (Leaves (task_text (Task.Items items.entry))
+        (task_weight (Task.Items items.entry)) text.old.items tasks.old.items text.new.items tasks.new.items) }
 {
     if !items.is_empty() {
         text.push(b',')?;

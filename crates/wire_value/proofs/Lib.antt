@@ -1,1 +1,2 @@
+-- a value, level by level
 pub mod Views

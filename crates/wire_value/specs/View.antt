@@ -1,6 +1,7 @@
 -- What a wire value of the program is, as plain data.
 use Rattle.std.specs.Prelude.{ℕ, List, [], ◌∷◌}
-use Rattle.wire_value.specs.Wire.{Wire, null, bool, int, text, list, object, Wires, no_wire, more_wires, Members, no_member, more_members}
+use Rattle.wire_value.specs.Wire.{Wire, null, bool, int, text, list, object, Wires, no_wire, more_wires, Members}
+use Rattle.wire_value.specs.Wire.{no_member, more_members}
 use Rattle.wire_value.specs.declared.wire.Wire as program
 use Rattle.wire_value.specs.declared.wire.Wire.TheOpen.{Wire-F, Member-F}
 use Rattle.wire_value.specs.declared.wire.Member as member

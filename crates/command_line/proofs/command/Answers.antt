@@ -1,3 +1,4 @@
+-- What clap makes of the words of a process, by `specs/Given.antt`: `command_is`.
 use Rattle.std.proofs.Common.{◌∙◌, map}
 use Rattle.std.specs.Prelude.{string_bytes}
 use Rattle.std.proofs.lemmas.Result.{IfOk-weaker}

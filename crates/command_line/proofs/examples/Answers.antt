@@ -1,3 +1,4 @@
+-- Each line of words is read by the definition itself.
 use Rattle.std.proofs.Common.{refl}
 use Rattle.std.specs.Str.{chars}
 use Rattle.command_line.specs.Examples.{TakesCommands, TakesHyphens, TakesNumbers, TakesOptions}

@@ -1,3 +1,5 @@
+-- The numbers of a command lie within their bounds: `command_within`.
+-- What `parse` reads, by the test that `specs/Command.antt` makes: `number_in-decimal`, `one_spelling`.
 use Rattle.std.proofs.Common.{◌≡◌, List, [], ◌∷◌, refl}
 use Rattle.command_line.specs.Command.{Text}
 use Rattle.command_line.specs.Given.{command_line}

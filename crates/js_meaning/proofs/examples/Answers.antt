@@ -1,3 +1,4 @@
+-- Each program is run by the meaning itself.
 use Rattle.std.proofs.Common.{refl}
 use Rattle.js_meaning.proofs.examples.Goals as goal
 

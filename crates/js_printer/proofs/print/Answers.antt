@@ -1,3 +1,4 @@
+-- Turns of the loop over the tasks: `next_inside`, `comes_next`, `less_left`.
 use Rattle.js_printer.proofs.Turns.{next_inside, comes_next, less_left}
 use Rattle.js_printer.proofs.print.Goals as goal
 

@@ -1,3 +1,4 @@
+-- One subcommand after the other is added to the program, and clap then reads the words.
 use Rattle.std.proofs.Common.{◌∙◌, ap, ap₂}
 use Rattle.std.proofs.lemmas.Result.{IfOk-weaker}
 use Rattle.clap.specs.Words.{App, with_subcommand}

@@ -1,3 +1,4 @@
+-- What `parse` reads, by the test that `specs/Command.antt` makes: `number_read`, `number_refused`, `other_form`.
 use Rattle.std.proofs.Common.{◌∙◌, arith, sym}
 use Rattle.command_line.proofs.NumberLemmas.{number_read, number_refused, other_form}
 use Rattle.command_line.proofs.numbers.number.Goals as goal

@@ -1,3 +1,4 @@
+-- Units and their texts, one on: `units_text-append`.
 use Rattle.std.proofs.Common.{arith}
 use Rattle.std.proofs.lemmas.Grind.{common_steps}
 use Rattle.elm_base.proofs.Texts.{units_text-append}

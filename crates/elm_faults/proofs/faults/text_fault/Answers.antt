@@ -1,3 +1,5 @@
+-- Where faults stand: `read_finds`.
+-- One step of the pass over the steps: `mapped`.
 use Rattle.std.proofs.Common.{◌≡◌, ◌<◌, map, None, true, sym, subst}
 use Rattle.elm_lexer.specs.View.{token_view}
 use Rattle.elm_faults.specs.Standing.{Finds}

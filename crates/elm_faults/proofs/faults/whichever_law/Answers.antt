@@ -1,3 +1,4 @@
+-- Where faults stand: `whichever`.
 use Rattle.std.proofs.Common.{◌<◌, sym, subst}
 use Rattle.elm_faults.proofs.Standings.{whichever}
 use Rattle.elm_faults.proofs.faults.whichever_law.Goals as goal

@@ -1,3 +1,4 @@
+-- Each text is read, and its faults are listed, by the definitions themselves.
 use Rattle.std.specs.Prelude.{refl}
 use Rattle.elm_tree.specs.Regroup.{row_of}
 use Rattle.elm_faults.specs.Faults.{faults_of}

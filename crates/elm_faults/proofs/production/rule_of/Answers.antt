@@ -1,3 +1,4 @@
+-- A production of a grammar that the program holds: `production_at`.
 use Rattle.std.proofs.Common.{ap, ◌∙◌}
 use Rattle.std.specs.Prelude.{option_map}
 use Rattle.parse_machine.specs.Grammar.{production}

@@ -1,3 +1,4 @@
+-- One step of the pass over the steps: `read_step`, `take_step`, `split_first`.
 use Rattle.std.proofs.Common.{◌-◌, map, reverse, length, take, drop, ap, sym, ◌∙◌}
 use Rattle.elm_lexer.specs.View.{token_view}
 use Rattle.parse_machine.specs.declared.table.Step.TheVariants.{Take, Read}

@@ -1,3 +1,4 @@
+-- Each text has the tree that the search for a derivation finds.
 use Rattle.std.specs.Prelude.{refl}
 use Rattle.elm_grammar.specs.Values.{takes, gives, act}
 use Rattle.elm_grammar.proofs.laws.examples.Goals as goal

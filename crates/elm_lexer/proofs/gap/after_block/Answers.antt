@@ -1,3 +1,4 @@
+-- Block comments and gaps: `ended_whole`.
 use Rattle.elm_lexer.proofs.Blocks.{ended_whole}
 use Rattle.elm_lexer.proofs.gap.after_block.Goals as goal
 

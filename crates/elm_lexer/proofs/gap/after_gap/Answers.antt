@@ -1,3 +1,4 @@
+-- Block comments and gaps: `line_gap`, `block_gap`, `block_no_gap`, `white_gap`.
 use Rattle.std.proofs.Common.{◌≡◌, ℕ, List, true, sym, subst, MatchOption, Option, None, Some, take, drop, length, ◌-◌}
 use Rattle.std.specs.Borrow.{Bor}
 use Rattle.elm_lexer.specs.Gaps.{begins_block, IsBlock, IsGap}

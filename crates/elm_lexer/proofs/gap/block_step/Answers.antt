@@ -1,3 +1,4 @@
+-- Block comments and gaps: `opens_whole`, `opens_only`, `closes_whole`, `closes_only`, and others.
 use Rattle.std.proofs.Common.{sym}
 use Rattle.elm_lexer.proofs.Blocks.{opens_whole, opens_only, closes_whole, closes_only, goes_whole, goes_only}
 use Rattle.elm_lexer.proofs.gap.block_step.Goals as goal

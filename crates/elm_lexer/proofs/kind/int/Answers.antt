@@ -1,3 +1,4 @@
+-- Numbers: `int_none`.
 use Rattle.elm_lexer.proofs.Numbers.{int_none}
 use Rattle.elm_lexer.proofs.kind.int.Goals as goal
 

@@ -1,3 +1,4 @@
+-- Numbers: `decimal_digits`.
 use Rattle.std.proofs.Common.{sym}
 use Rattle.elm_lexer.proofs.Numbers.{decimal_digits}
 use Rattle.elm_lexer.proofs.kind.number_kind.Goals as goal

@@ -1,3 +1,4 @@
+-- Each name without points among the tokens is a word: `tokens_names`.
 use Rattle.elm_lexer.proofs.Names.{tokens_names}
 use Rattle.elm_lexer.proofs.laws.names_law.Goals as goal
 

@@ -1,3 +1,6 @@
+-- The loop over a text: `cuts_start`, `gap_cut`, `gap_step`, `token_step`, and others.
+-- The loop over a text: `fault_found`, `first_found`, `end_found`, `some_of`, and others.
+-- What a text begins with is what the program finds, and what a token is: `token_cut`.
 use Rattle.std.proofs.lemmas.List.{length-drop, length-append}
 use Rattle.std.proofs.Common.{ℕ, [], ◌∷◌, length, map, refl, sym, ap, subst, ◌∙◌, arith, rules}
 use Rattle.std.proofs.lemmas.Grind.{common_steps}
@@ -6,7 +9,8 @@ use Rattle.elm_lexer.specs.Gaps.{begins_gap, IsGap}
 use Rattle.elm_base.specs.declared.fault.Code.TheVariants as fault_code
 use Rattle.elm_lexer.specs.Tokens.{fault_at}
 use Rattle.elm_lexer.specs.View.{token_view, place_view}
-use Rattle.elm_lexer.proofs.Loop.{cuts_start, gap_cut, gap_step, token_step, token_boundary, no_text_found, open_found, fault_found, first_found, end_found, some_of, none_of, map_push}
+use Rattle.elm_lexer.proofs.Loop.{cuts_start, gap_cut, gap_step, token_step, token_boundary, no_text_found, open_found}
+use Rattle.elm_lexer.proofs.Loop.{fault_found, first_found, end_found, some_of, none_of, map_push}
 use Rattle.elm_lexer.proofs.Starts.{token_cut}
 use Rattle.elm_lexer.proofs.Same.{same_tokens, fault_alone}
 use Rattle.elm_lexer.proofs.lexer.tokens.Goals as goal

@@ -1,3 +1,5 @@
+-- One turn of the walks over the characters of a text: `name_turn`, `point_turn`, `name_stop`, `name_end`, and
+-- others.
 use Rattle.std.proofs.Common.{◌≡◌, ◌+◌, ◌&&◌, ◌==◌, sym, ap, ◌∙◌, subst}
 use Rattle.std.proofs.lemmas.Str.{IsUtf8-past_char}
 use Rattle.std.specs.Str.{chars}

@@ -1,3 +1,4 @@
+-- One turn of the walks over the characters of a text: `number_turn`, `number_stop`, `number_end`, `within_turn`.
 use Rattle.std.proofs.Common.{sym, ap, ◌∙◌}
 use Rattle.std.proofs.lemmas.Str.{IsUtf8-past_char}
 use Rattle.std.specs.Str.{chars}

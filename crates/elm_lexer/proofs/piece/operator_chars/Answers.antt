@@ -1,3 +1,4 @@
+-- One turn of the walks over the characters of a text: `run_turn`, `run_stop`, `run_end`, `within_turn`.
 use Rattle.std.proofs.Common.{sym, ◌∙◌}
 use Rattle.std.proofs.lemmas.Str.{IsUtf8-past_char}
 use Rattle.std.specs.Str.Iter.{chars_rest}

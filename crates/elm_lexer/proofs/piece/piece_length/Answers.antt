@@ -1,3 +1,4 @@
+-- One turn of the walks over the characters of a text: `piece_word`, `piece_operator`.
 use Rattle.std.proofs.Common.{◌+◌, ◌==◌, ◌&&◌, ◌||◌, ap, sym, ◌∙◌}
 use Rattle.std.specs.Str.Iter.{chars_rest}
 use Rattle.std.specs.Str.{chars}

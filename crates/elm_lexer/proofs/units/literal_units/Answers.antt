@@ -1,3 +1,5 @@
+-- One turn of the scans of literals: `units_turn`, `units_end`.
+-- Units and their texts, one on: `map_same`.
 use Rattle.std.proofs.Common.{sym, ap, subst, ◌∙◌}
 use Rattle.std.specs.Str.{IsUtf8, chars}
 use Rattle.std.proofs.lemmas.Iterator.{YieldsList-from_chars}

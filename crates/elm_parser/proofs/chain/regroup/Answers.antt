@@ -1,3 +1,5 @@
+-- From what the machine and the search for faults answer to the steps of a text, or its fault: `err_mapped`,
+-- `take_all`, `begins_with`.
 use Rattle.std.proofs.Common.{◌≡◌, List, [], get_or, map, take, length, refl, sym, ap, subst, ◌∙◌, arith}
 use Rattle.elm_base.specs.declared.fault.Code.TheVariants.{TooDeep}
 use Rattle.elm_lexer.specs.Tokens.{Fault, first_place}

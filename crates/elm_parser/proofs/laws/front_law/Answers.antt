@@ -1,3 +1,4 @@
+-- The tree and the fault are determined by the tokens, and there are not both: `front_law`.
 use Rattle.elm_parser.proofs.Determined.{front_law}
 use Rattle.elm_parser.proofs.laws.front_law.Goals as goal
 

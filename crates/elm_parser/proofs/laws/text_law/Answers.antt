@@ -1,3 +1,4 @@
+-- The tree and the fault are determined by the tokens, and there are not both: `text_law`.
 use Rattle.elm_parser.proofs.Determined.{text_law}
 use Rattle.elm_parser.proofs.laws.text_law.Goals as goal
 

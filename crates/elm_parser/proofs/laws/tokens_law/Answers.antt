@@ -1,3 +1,4 @@
+-- The tree and the fault are determined by the tokens, and there are not both: `tokens_law`.
 use Rattle.elm_parser.proofs.Determined.{tokens_law}
 use Rattle.elm_parser.proofs.laws.tokens_law.Goals as goal
 

@@ -1,3 +1,4 @@
+-- What is built of the steps of a derivation is what its tokens spell: `module_kind`, `read_whole`.
 use Rattle.std.proofs.Common.{map, refl, sym, subst}
 use Rattle.elm_lexer.specs.View.{token_view}
 use Rattle.elm_tree.specs.View.{module_view}

@@ -1,3 +1,6 @@
+-- What is built of the steps of a derivation is what its tokens spell: `pattern_kind`, `read_front`.
+-- From what the machine and the search for faults answer to the steps of a text, or its fault: `rest_fits`,
+-- `left_over`.
 use Rattle.std.proofs.lemmas.List.{length-map}
 use Rattle.std.proofs.Common.{map, refl, sym, subst, arith}
 use Rattle.elm_lexer.specs.View.{token_view}

@@ -1,3 +1,4 @@
+-- From what the machine and the search for faults answer to the steps of a text, or its fault: `fault_mapped`.
 use Rattle.std.proofs.Common.{map, refl, sym, ap, subst, ◌∙◌}
 use Rattle.elm_lexer.specs.Tokens.{behind, first_place}
 use Rattle.elm_lexer.specs.View.{token_view, place_view}

@@ -1,3 +1,4 @@
+-- Each chain is grouped by the definition itself.
 use Rattle.std.specs.Prelude.{refl}
 use Rattle.elm_tree.specs.Regroup.{row_of, grouped, turns, clashing}
 use Rattle.elm_tree.proofs.laws.examples.Goals as goal

@@ -1,3 +1,4 @@
+-- Chains are grouped in one way: `groups_well`, `groups_once`.
 use Rattle.elm_tree.proofs.Grouping.{groups_well, groups_once}
 use Rattle.elm_tree.proofs.laws.regroup_law.Goals as goal
 

@@ -1,3 +1,4 @@
+-- The turns of a chain, by a stack of operators: `along_start`, `along_clash`, `along_next`, `along_end`.
 use Rattle.std.proofs.Common.{rules, map, arith, ◌∙◌, ap, ◌+◌, [], ◌∷◌, ◌++◌}
 use Rattle.std.proofs.lemmas.List.{map-append}
 use Rattle.elm_tree.specs.declared.turns.Turn.TheVariants.{Operand}

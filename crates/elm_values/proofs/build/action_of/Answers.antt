@@ -1,5 +1,6 @@
 -- What `get` reads is the action at that place, and past the last one it is the empty module.
-use Rattle.std.proofs.Common.{◌≡◌, ℕ, zero, suc, ◌<◌, ◌≤◌, List, [], ◌∷◌, length, get_or, true, false, nat_lt, refl, arith}
+use Rattle.std.proofs.Common.{◌≡◌, ℕ, zero, suc, ◌<◌, ◌≤◌, List, [], ◌∷◌, length, get_or, true, false, nat_lt, refl}
+use Rattle.std.proofs.Common.{arith}
 use Rattle.std.proofs.lemmas.Bool.Decides.{nat_tests}
 use Rattle.elm_grammar.specs.declared.action.Action.{Action}
 use Rattle.elm_grammar.specs.declared.action.Action.TheVariants.{EmptyModule}

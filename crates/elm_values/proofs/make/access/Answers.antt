@@ -17,7 +17,7 @@ pub returns : goal.returns
 returns c = λ tokens.
     access_expr tokens c.args.place c.in_ok-e.e c.turned.result ∙
     (ap (λ z. Access (place_view tokens c.args.place) (expr_view tokens z) (fields_view tokens c.turned.result.items))
-    c.in_ok-e.ensures.ok ∙
+    c.in_ok-e.ensures ∙
     (ap (Access (place_view tokens c.args.place) (expr_view tokens c.args.e))
     (ap (fields_view tokens) c.turned.ensures ∙ fields_seen tokens (reverse c.args.fields.items)) ∙
     accessed_some (place_view tokens c.args.place) (expr_view tokens c.args.e)

@@ -16,7 +16,7 @@ pub returns : goal.returns
 returns c = λ tokens.
     apply_expr tokens c.in_ok-function.function c.turned.result ∙
     (ap (λ z. Apply (expr_view tokens z) (exprs_of (map (expr_view tokens) c.turned.result.items)))
-    c.in_ok-function.ensures.ok ∙
+    c.in_ok-function.ensures ∙
     (ap (λ z. Apply (expr_view tokens c.args.function) (exprs_of (map (expr_view tokens) z))) c.turned.ensures ∙
     applied_some (expr_view tokens c.args.function) (held (expr_view tokens) c.args.arguments.items)
     (held_some (expr_view tokens) c.args.arguments.items c.args.arguments.ok.0 c.if-is_empty.ensures)))

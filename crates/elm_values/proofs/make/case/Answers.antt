@@ -9,6 +9,6 @@ pub returns : goal.returns
 returns c = λ tokens.
     case_expr tokens c.args.place c.in_ok-e.e c.turned.result ∙
     (ap (λ z. Case (place_view tokens c.args.place) (expr_view tokens z)
-    (branches_of (map (branch_view tokens) c.turned.result.items))) c.in_ok-e.ensures.ok ∙
+    (branches_of (map (branch_view tokens) c.turned.result.items))) c.in_ok-e.ensures ∙
     ap (λ z. Case (place_view tokens c.args.place) (expr_view tokens c.args.e)
     (branches_of (map (branch_view tokens) z))) c.turned.ensures)

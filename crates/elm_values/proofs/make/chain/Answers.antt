@@ -16,7 +16,7 @@ pub returns : goal.returns
 returns c = λ tokens.
     chain_expr tokens c.in_ok-operand.operand c.turned.result ∙
     (ap (λ z. Chain (expr_view tokens z) (parts_of (map (part_view tokens) c.turned.result.items)))
-    c.in_ok-operand.ensures.ok ∙
+    c.in_ok-operand.ensures ∙
     (ap (λ z. Chain (expr_view tokens c.args.operand) (parts_of (map (part_view tokens) z))) c.turned.ensures ∙
     chained_some (expr_view tokens c.args.operand) (held (part_view tokens) c.args.others.items)
     (held_some (part_view tokens) c.args.others.items c.args.others.ok.0 c.if-is_empty.ensures)))

@@ -9,6 +9,6 @@ pub returns : goal.returns
 returns c = λ tokens.
     lambda_expr tokens c.args.place c.in_ok-parameters.parameters c.in_ok-body.body ∙
     (ap (λ z. Lambda (place_view tokens c.args.place) (patterns_view tokens c.in_ok-parameters.parameters.items)
-    (expr_view tokens z)) c.in_ok-body.ensures.ok ∙
+    (expr_view tokens z)) c.in_ok-body.ensures ∙
     ap (λ z. Lambda (place_view tokens c.args.place) z (expr_view tokens c.args.body))
     (c.in_ok-parameters.ensures tokens))

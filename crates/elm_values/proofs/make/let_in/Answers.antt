@@ -9,5 +9,5 @@ pub returns : goal.returns
 returns c = λ tokens.
     let_expr tokens c.turned.result c.in_ok-body.body ∙
     (ap (λ z. Let (definitions_of (map (definition_view tokens) c.turned.result.items)) (expr_view tokens z))
-    c.in_ok-body.ensures.ok ∙
+    c.in_ok-body.ensures ∙
     ap (λ z. Let (definitions_of (map (definition_view tokens) z)) (expr_view tokens c.args.body)) c.turned.ensures)

@@ -2,7 +2,6 @@
 use Rattle.std.proofs.Common.{map, sym, ap, ◌∙◌, ◌∷◌, []}
 use Rattle.std.proofs.lemmas.Result.{IfOk-weaker}
 use Rattle.elm_tree.specs.View.{expr_view, part_view, token_view}
-use Rattle.elm_grammar.specs.declared.action.Item.TheVariants as item
 use Rattle.elm_grammar.specs.Values.{applied, chained, after_minus}
 use Rattle.elm_values.specs.Stack.{held, after_view}
 use Rattle.elm_tree.proofs.Views.{word_expr}

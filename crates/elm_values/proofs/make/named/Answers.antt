@@ -13,6 +13,6 @@ returns-in_ok-inner-in-Some c = λ tokens.
     ap (begun (place_view tokens c.args.begun.place))
     (as_pattern tokens c.args.begun.place c.in_ok-inner-in-Some.inner c.in-Some.name ∙
     ap (λ z. As (place_view tokens c.args.begun.place) (pattern_view tokens z) (word_view tokens c.in-Some.name))
-    c.in_ok-inner-in-Some.ensures.ok) ∙
+    c.in_ok-inner-in-Some.ensures) ∙
     with_name_some tokens (begun_view tokens c.args.begun) c.in-Some.name (reverse c.args.name.items)
     c.in-Some.ensures

@@ -8,4 +8,4 @@ use Rattle.elm_values.proofs.make.negation.Goals as goal
 pub returns : goal.returns
 returns c = λ tokens.
     negative_expr tokens c.args.place c.in_ok-operand.operand ∙
-    ap (λ z. Negate (place_view tokens c.args.place) (expr_view tokens z)) c.in_ok-operand.ensures.ok
+    ap (λ z. Negate (place_view tokens c.args.place) (expr_view tokens z)) c.in_ok-operand.ensures

@@ -1,6 +1,6 @@
 use Rattle.std.proofs.Common.{◌≡◌, ◌+◌, ◌∷◌, drop, map}
 use Rattle.first_canon.specs.View.{expr_view, field_view, exprs_of, fields_of}
-use Rattle.js_tree.specs.Postorder.{Expression, MembersOf, below, build, expression, members, members_then, top}
+use Rattle.js_tree.specs.Postorder.{Expression, MembersOf, below, trees_of, expression, members, members_then, top}
 use Rattle.first_emit.specs.Emit.{emit_calls, emit_fields, made_in_all, made_in_fields}
 use Rattle.first_emit.specs.Literals.{AllHaveExactLiterals, FieldsHaveExactLiterals}
 use Rattle.first_emit.proofs.expr.+expr.Given as goal
@@ -11,8 +11,8 @@ invariant-emit_calls-loop-argument l =
     let all = exprs_of (map expr_view l.argument-items) in
     record {
       exact : AllHaveExactLiterals left;
-      called : build l.trees ≡ Expression (expression (top (build l.trees))) ∷ below (build l.initial.trees);
-      emitted : emit_calls (expression (top (build l.trees))) l.made left ≡ emit_calls (expression (top (build l.initial.trees))) l.initial.made all;
+      called : trees_of l.trees ≡ Expression (expression (top (trees_of l.trees))) ∷ below (trees_of l.initial.trees);
+      emitted : emit_calls (expression (top (trees_of l.trees))) l.made left ≡ emit_calls (expression (top (trees_of l.initial.trees))) l.initial.made all;
       counted : l.made + made_in_all left ≡ l.initial.made + made_in_all all;
     }
 
@@ -22,7 +22,7 @@ invariant-emit_record-loop-field l =
     let all = fields_of (map field_view l.field-items) in
     record {
       exact : FieldsHaveExactLiterals left;
-      kind : build l.trees ≡ MembersOf (members (top (build l.trees))) ∷ build l.fn.trees;
-      emitted : members_then (members (top (build l.trees))) (emit_fields l.made left) ≡ emit_fields l.initial.made all;
+      kind : trees_of l.trees ≡ MembersOf (members (top (trees_of l.trees))) ∷ trees_of l.fn.trees;
+      emitted : members_then (members (top (trees_of l.trees))) (emit_fields l.made left) ≡ emit_fields l.initial.made all;
       counted : l.made + made_in_fields left ≡ l.initial.made + made_in_fields all;
     }

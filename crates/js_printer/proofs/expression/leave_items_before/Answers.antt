@@ -1,3 +1,6 @@
+-- What a step leaves, from how a task comes apart: `skipped`, `pushed`.
+-- Nodes that are not of a kind: `no_item`.
+-- How the task of each node comes apart: `here`, `starts`, `items_before_splits`.
 use Rattle.std.proofs.Common.{◌-◌, ap, ◌∙◌, refl, sym, append-nil}
 use Rattle.js_tree.specs.Postorder.{top, items}
 use Rattle.js_printer.specs.declared.task.Task as task

@@ -1,3 +1,7 @@
+-- What a step leaves, from how a task comes apart: `written_whole`, `pushed`, `after_two`, `after_three`, and
+-- others.
+-- The texts of units and of ports, one on: `zero_text`.
+-- Nodes that are not of a kind: `no_expression`.
 use Rattle.std.proofs.Common.{◌-◌, ap, ◌∙◌, refl, sym, append-nil, rules}
 use Rattle.std.proofs.lemmas.Int.{ints}
 use Rattle.js_tree.specs.Text.{js_text, text_text, int_text}
@@ -6,7 +10,8 @@ use Rattle.js_printer.specs.declared.task.Task as task
 use Rattle.js_printer.proofs.Splits.{written_whole, pushed, after_two, after_three, if_ok}
 use Rattle.js_printer.proofs.Texts.{zero_text}
 use Rattle.js_printer.proofs.Others.{no_expression}
-use Rattle.js_printer.proofs.Parts.{here, starts, arrow_splits, block_splits, call_splits, binary_splits, conditional_splits, object_splits, property_splits, list_splits, helper_splits}
+use Rattle.js_printer.proofs.Parts.{here, starts, arrow_splits, block_splits, call_splits, binary_splits}
+use Rattle.js_printer.proofs.Parts.{conditional_splits, object_splits, property_splits, list_splits, helper_splits}
 use Rattle.js_printer.proofs.expression.write_expression.Goals as goal
 
 pub returns-in_default : goal.returns-in_default

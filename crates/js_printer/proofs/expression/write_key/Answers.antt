@@ -1,3 +1,6 @@
+-- What a step leaves, from how a task comes apart: `skipped`, `written_whole`, `after_two`, `last_ok`.
+-- Nodes that are not of a kind: `no_property`.
+-- How the task of each node comes apart: `here`.
 use Rattle.std.proofs.Common.{ap, ◌∙◌}
 use Rattle.js_tree.specs.Postorder.{top, expression}
 use Rattle.js_printer.specs.declared.task.Task as task

@@ -1,3 +1,6 @@
+-- What a step leaves, from how a task comes apart: `skipped`, `pushed`.
+-- Nodes that are not of a kind: `no_member`.
+-- How the task of each node comes apart: `here`, `starts`, `members_splits`.
 use Rattle.std.proofs.Common.{◌-◌, ap, ◌∙◌, sym, append-nil}
 use Rattle.js_tree.specs.Tree.{NoField}
 use Rattle.js_tree.specs.Text.{fields_text}

@@ -1,3 +1,6 @@
+-- What a step leaves, from how a task comes apart: `skipped`, `pushed`.
+-- Nodes that are not of a kind: `no_line`.
+-- How the task of each node comes apart: `here`, `starts`, `lines_splits`.
 use Rattle.std.proofs.Common.{◌-◌, ap, ◌∙◌, sym, append-nil}
 use Rattle.js_tree.specs.Tree.{NoLine}
 use Rattle.js_tree.specs.Text.{lines_text}

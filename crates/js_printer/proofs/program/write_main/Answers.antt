@@ -1,3 +1,6 @@
+-- What a step leaves, from how a task comes apart: `skipped`, `pushed`, `after_three`.
+-- Nodes that are not of a kind: `no_main`.
+-- How the task of each node comes apart: `here`, `starts`, `main_splits`.
 use Rattle.std.proofs.Common.{◌-◌, ap, ◌∙◌, refl}
 use Rattle.js_tree.specs.Postorder.{top}
 use Rattle.js_printer.specs.declared.task.Task as task

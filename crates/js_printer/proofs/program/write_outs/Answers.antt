@@ -1,3 +1,6 @@
+-- What a step leaves, from how a task comes apart: `skipped`, `written_whole`.
+-- Nodes that are not of a kind: `no_outs`.
+-- How the task of each node comes apart: `here`.
 use Rattle.std.proofs.Common.{ap, ◌∙◌}
 use Rattle.js_tree.specs.Postorder.{top}
 use Rattle.js_printer.specs.declared.task.Task as task

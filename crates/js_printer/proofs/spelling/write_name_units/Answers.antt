@@ -1,3 +1,4 @@
+-- The texts of units and of ports, one on: `name_units-append`.
 use Rattle.std.proofs.Common.{arith}
 use Rattle.std.proofs.lemmas.Grind.{common_steps}
 use Rattle.js_printer.proofs.Texts.{name_units-append}

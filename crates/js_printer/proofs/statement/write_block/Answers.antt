@@ -1,3 +1,6 @@
+-- What a step leaves, from how a task comes apart: `written_whole`, `pushed`, `if_ok`.
+-- Nodes that are not of a kind: `no_block`.
+-- How the task of each node comes apart: `here`, `starts`, `return_splits`, `if_splits`, and others.
 use Rattle.std.proofs.Common.{◌-◌, ap, ◌∙◌, refl, sym, append-nil}
 use Rattle.js_tree.specs.Text.{stmts_text}
 use Rattle.js_tree.specs.Postorder.{top, block}

@@ -1,3 +1,6 @@
+-- What a step leaves, from how a task comes apart: `skipped`, `valued`.
+-- Nodes that are not of a kind: `no_statement`.
+-- How the task of each node comes apart: `here`, `const_value_splits`, `let_value_splits`, `assign_value_splits`.
 use Rattle.std.proofs.Common.{[], ap, ◌∙◌, refl, sym, append-nil}
 use Rattle.js_tree.specs.Postorder.{top, statements}
 use Rattle.js_printer.specs.declared.task.Task as task

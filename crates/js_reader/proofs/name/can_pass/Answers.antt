@@ -1,3 +1,4 @@
+-- Digits of base 16: `two_to_come`.
 use Rattle.std.proofs.Common.{◌≡◌, ◌-◌, true, suc, nat_le, nat_lt, ap, sym, ◌∙◌, arith}
 use Rattle.std.proofs.lemmas.Bool.Decides.{nat_tests}
 use Rattle.js_tree.specs.NameReader as reading

@@ -1,3 +1,4 @@
+-- Digits of base 16: `two_to_stand`.
 use Rattle.std.proofs.Common.{◌≡◌, ◌-◌, ◌*◌, ◌^◌, ◌||◌, suc, nat_lt, ap, sym, ◌∙◌, arith}
 use Rattle.js_tree.specs.NameReader.{greatest}
 use Rattle.js_reader.proofs.Hex.{two_to_stand}

@@ -1,3 +1,4 @@
+-- Places, byte by byte: `next_behind`.
 use Rattle.std.proofs.Common.{◌<◌, length, get_or, ap, sym, ◌∙◌, arith}
 use Rattle.js_tree.specs.Faults.{next_place, Place}
 use Rattle.js_reader.proofs.Places.{next_behind}

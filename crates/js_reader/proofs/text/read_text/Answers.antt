@@ -1,6 +1,7 @@
+-- Reading, byte by byte and whole: `dead_behind`, `live_behind`, `at_end`, `stops_at_end`, and others.
 use Rattle.std.proofs.Common.{length, ◌≤◌, ap, sym, ◌∙◌, arith}
 use Rattle.js_tree.specs.Automaton.{Finished, is_live}
-use Rattle.js_tree.specs.Postorder.{build, top}
+use Rattle.js_tree.specs.Postorder.{trees_of, top}
 use Rattle.js_reader.specs.View.{state_of, program_at}
 use Rattle.js_reader.specs.Empty.{is_finished}
 use Rattle.js_reader.proofs.Reading.{dead_behind, live_behind, at_end, stops_at_end, whole_text, flip_true, flip_false}
@@ -23,8 +24,8 @@ pub returns-then-is_finished-clause-read : goal.returns-then-is_finished-clause-
 returns-then-is_finished-clause-read c =
     let bytes = c.args.bytes.now in
     let past : length bytes ≤ c.loop-index.index = let h = c.loop-index-test.false in omega arith in
-    whole_text bytes (top (build c.into_trees.result)) (sym (at_end bytes c.loop-index.index (state_of c.loop-index.reader) past c.loop-index.invariant.state)
-    ∙ (c.is_finished.ensures.yes c.if-is_finished.true ∙ ap (λ ts. Finished (program_at (top (build ts)))) (sym c.into_trees.ensures)))
+    whole_text bytes (top (trees_of c.into_trees.result)) (sym (at_end bytes c.loop-index.index (state_of c.loop-index.reader) past c.loop-index.invariant.state)
+    ∙ (c.is_finished.ensures.yes c.if-is_finished.true ∙ ap (λ ts. Finished (program_at (top (trees_of ts)))) (sym c.into_trees.ensures)))
 
 pub returns-clause-refused : goal.returns-clause-refused
 returns-clause-refused c =

@@ -1,3 +1,4 @@
+-- The words in their tables: `begun_keywords`, `keyword_later`, `keyword_here`, `keyword_none`.
 use Rattle.std.proofs.Common.{refl, sym, ◌∙◌}
 use Rattle.js_reader.proofs.Words.{begun_keywords, keyword_later, keyword_here, keyword_none}
 use Rattle.js_reader.proofs.word.begins_keyword.Goals as goal

@@ -1,3 +1,4 @@
+-- The words in their tables: `begun_words`, `begun_later`, `begun_here`, `begun_none`.
 use Rattle.std.proofs.Common.{refl, sym, ◌∙◌}
 use Rattle.js_reader.proofs.Words.{begun_words, begun_later, begun_here, begun_none}
 use Rattle.js_reader.proofs.word.begins_word.Goals as goal

@@ -1,3 +1,4 @@
+-- The words in their tables: `find_words`, `find_later`, `find_here`, `find_none`.
 use Rattle.std.proofs.Common.{refl, sym, ◌∙◌}
 use Rattle.js_reader.proofs.Words.{find_words, find_later, find_here, find_none}
 use Rattle.js_reader.proofs.word.find_word.Goals as goal

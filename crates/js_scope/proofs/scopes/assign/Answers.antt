@@ -1,3 +1,4 @@
+-- The names that are bound, as they are kept: `place_inside`, `own_is`, `assigned_none`, `assigned_own`.
 use Rattle.std.proofs.Common.{◌∙◌, sym, arith}
 use Rattle.std.proofs.lemmas.Bool.{lt-ltb, le-ltb}
 use Rattle.js_tree.specs.Postorder.{name_view}

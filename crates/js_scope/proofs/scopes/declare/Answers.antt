@@ -1,3 +1,4 @@
+-- The names that are bound, as they are kept: `bound_push`, `indexed_push`, `indexed_same`.
 use Rattle.std.proofs.Common.{◌∙◌, ap, [], ◌∷◌, ◌++◌, refl, false, ◌+◌, length}
 use Rattle.js_tree.specs.Postorder.{name_view}
 use Rattle.js_scope.specs.declared.scopes.Binding.{Binding}

@@ -1,3 +1,5 @@
+-- The marks of assignment that a walk leaves: `no_more`.
+-- The names that are bound, as they are kept: `length-bound_on`, `settled_more`, `settled_end`, `first_more`.
 use Rattle.std.proofs.Common.{◌∙◌, sym, ap, [], arith}
 use Rattle.std.specs.Prelude.{◌&&◌}
 use Rattle.js_scope.specs.Walk.{first_bound, is_settled}

@@ -1,3 +1,4 @@
+-- The names that are bound, as they are kept: `place_inside`, `found_is`, `read_none`, `read_own`, and others.
 use Rattle.std.proofs.Common.{◌∙◌, sym, ap, arith}
 use Rattle.std.specs.Prelude.{nat_lt}
 use Rattle.std.proofs.lemmas.Bool.{lt-ltb}

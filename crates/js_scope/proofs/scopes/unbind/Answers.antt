@@ -1,3 +1,4 @@
+-- The names that are bound, as they are kept: `bound_pop`, `indexed_pop`, `indexed_same`, `last_one`.
 use Rattle.std.proofs.Common.{◌≡◌, ◌∙◌, ◌-◌, sym, ap, refl, List, [], ◌∷◌, ◌++◌, length, get_or}
 use Rattle.js_tree.specs.Postorder.{name_view}
 use Rattle.js_scope.specs.declared.scopes.Binding.{Binding}

@@ -1,3 +1,5 @@
+-- Steps that do the same: `names_whole`, `names_after`.
+-- Tasks that go on in the place of one: `goes_nowhere`, `goes_to_two`.
 use Rattle.std.proofs.Common.{◌-◌, ◌*◌, List, [], ◌∷◌, true, sym, ap, ◌∙◌, arith}
 use Rattle.js_tree.specs.Tree.{Name}
 use Rattle.js_tree.specs.Postorder.{Tree, statements, block, top, below, trees_at}

@@ -1,3 +1,5 @@
+-- Steps that do the same: `names_after`.
+-- Tasks that go on in the place of one: `goes_nowhere`, `goes_to_one`.
 use Rattle.std.proofs.Common.{◌-◌, ◌*◌, List, [], ◌∷◌, true, sym, ap, ◌∙◌, arith}
 use Rattle.js_tree.specs.Tree.{Name}
 use Rattle.js_tree.specs.Postorder.{Tree, name_view, statements, top, below, trees_at}

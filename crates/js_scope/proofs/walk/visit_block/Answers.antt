@@ -1,3 +1,5 @@
+-- Steps that do the same: `last_walked`, `two_and_last`, `statements_whole`, `block_then`.
+-- Tasks that go on in the place of one: `goes_nowhere`, `goes_to_one`, `goes_to_two`, `goes_to_three`.
 use Rattle.std.proofs.Common.{◌-◌, ◌*◌, List, ◌∷◌, true, sym, ap, ◌∙◌, arith}
 use Rattle.js_tree.specs.Postorder.{Tree, expression, statements, block, top, below, trees_at}
 use Rattle.js_scope.specs.declared.tasks.Task as task

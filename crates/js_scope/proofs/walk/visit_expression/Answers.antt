@@ -1,3 +1,5 @@
+-- Steps that do the same: `both_walked`, `three_walked`, `arrow_walked`, `called_walked`, and others.
+-- Tasks that go on in the place of one: `goes_nowhere`, `goes_to_one`, `goes_to_two`, `goes_to_three`.
 use Rattle.std.proofs.Common.{◌≡◌, ◌-◌, ◌*◌, List, [], ◌∷◌, length, true, sym, ap, ◌∙◌, arith}
 use Rattle.std.specs.Prelude.{◌&&◌}
 use Rattle.js_tree.specs.Tree.{NoJs, NoField}

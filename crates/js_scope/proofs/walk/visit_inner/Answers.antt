@@ -1,3 +1,5 @@
+-- Steps that do the same: `inner_walked`.
+-- Tasks that go on in the place of one: `goes_to_three`.
 use Rattle.std.proofs.Common.{◌+◌, ◌*◌, List, [], ◌∷◌, true, ap, ◌∙◌, arith}
 use Rattle.js_tree.specs.Postorder.{block, top, trees_at}
 use Rattle.js_scope.specs.declared.tasks.Task as task

@@ -1,3 +1,5 @@
+-- Steps that do the same: `both_walked`, `three_walked`.
+-- Tasks that go on in the place of one: `goes_nowhere`, `goes_to_two`.
 use Rattle.std.proofs.Common.{◌-◌, ◌*◌, List, ◌∷◌, true, sym, ap, ◌∙◌, arith}
 use Rattle.std.specs.Prelude.{◌&&◌}
 use Rattle.js_tree.specs.Postorder.{Tree, name_view, expression, statements, top, below, trees_at}

@@ -1,3 +1,4 @@
+-- Where trees begin, as nodes come: `trees_more`.
 use Rattle.std.proofs.Common.{◌≡◌, ◌<◌, ◌-◌, suc, length, ap, ◌∙◌, sym, arith}
 use Rattle.js_tree.specs.Postorder.{apply, trees_at}
 use Rattle.js_tree.proofs.Linked.{trees_more}

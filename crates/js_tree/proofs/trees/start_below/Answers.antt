@@ -1,3 +1,4 @@
+-- The start that was kept for the node before is the start of its tree.
 use Rattle.std.proofs.Common.{◌≡◌, ◌<◌, ◌-◌, suc, length, ap, ◌∙◌, arith}
 use Rattle.js_tree.specs.Postorder.{below, trees_at}
 use Rattle.js_tree.proofs.trees.start_below.Goals as goal

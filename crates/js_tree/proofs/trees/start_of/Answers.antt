@@ -1,3 +1,4 @@
+-- One tree after the other is left below, and each start is the one that was kept for its node.
 use Rattle.std.proofs.Common.{◌≡◌, ◌+◌, ◌-◌, suc, ap, ◌∙◌, sym, arith}
 use Rattle.js_tree.specs.Postorder.{below_times, trees_at}
 use Rattle.js_tree.proofs.trees.start_of.Goals as goal

@@ -1,7 +1,8 @@
 -- Each step keeps the state, by the lemma of its kind: `running_closed`, `running_word` or `running_call`. Where no
 -- step is left, the state says what the machine has found: `whole_stop`, `word_stop` or `call_stop`.
 use Rattle.std.proofs.Common.{◌≡◌, refl, ap, length, arith}
-use Rattle.parse_machine.proofs.Running.{running_start, running_closed, less_closed, running_word, running_call, less_call, choice_in, whole_stop, word_stop, call_stop, none_of, shorter}
+use Rattle.parse_machine.proofs.Running.{running_start, running_closed, less_closed, running_word, running_call}
+use Rattle.parse_machine.proofs.Running.{less_call, choice_in, whole_stop, word_stop, call_stop, none_of, shorter}
 use Rattle.parse_machine.proofs.Planning.{planned-is, start_ends}
 use Rattle.parse_machine.proofs.machine.run.Goals as goal
 

@@ -1,3 +1,4 @@
+-- What is put after an answered input is the text of its answer.
 use Rattle.std.proofs.Common.{ap, ◌∙◌}
 use Rattle.elm_files.specs.Texts.{longer}
 use Rattle.wire_value.specs.View.{wire_view}

@@ -1,3 +1,4 @@
+-- One input of a run of which a front part was put: `next_given`, `given_on`, `given_last`, `given_part`.
 use Rattle.std.proofs.Common.{◌+◌, map, drop, sym, ◌∙◌}
 use Rattle.js_run.specs.Sessions.{told}
 use Rattle.js_run.specs.Views.{app_view, machine_of}

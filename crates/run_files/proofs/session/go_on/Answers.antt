@@ -1,3 +1,4 @@
+-- One input of a run of which a front part was put: `started_last`, `started_told`, `started_part`, `start_part`.
 use Rattle.std.proofs.Common.{◌≡◌, map, sym, ap, ◌∙◌, subst}
 use Rattle.std.proofs.lemmas.Result.{IfOk-weaker, IfErr-weaker}
 use Rattle.elm_files.specs.Texts.{longer}

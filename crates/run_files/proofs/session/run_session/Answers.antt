@@ -1,3 +1,4 @@
+-- One input of a run of which a front part was put: `session_begun`, `session_trace`.
 use Rattle.std.proofs.Common.{map, ap, subst}
 use Rattle.std.proofs.lemmas.Result.{IfOk-weaker, IfErr-weaker}
 use Rattle.wire_value.specs.Wire.{null}

@@ -1,3 +1,4 @@
+-- Where texts are cut: `other`.
 use Rattle.std.proofs.Common.{◌==◌, ◌<◌, length, get_or, sym, eq-eqb, arith}
 use Rattle.std.proofs.lemmas.List.Sums.{position_or_len_is}
 use Rattle.run_text.proofs.Cutting.{other}

@@ -1,3 +1,4 @@
+-- What a line gives, and lines one after the other: `not_utf8`, `good_input`, `some_in`.
 use Rattle.std.proofs.Common.{◌≡◌, ◌<◌, length, Some, option_map, sym, ap, ◌∙◌, arith}
 use Rattle.wire_value.specs.View.{wire_view}
 use Rattle.elm_base.specs.Units.{text_units}

@@ -1,3 +1,4 @@
+-- What a line gives, and lines one after the other: `bad_line`, `unknown_line`, `good_line`, `no_line`.
 use Rattle.std.proofs.Common.{◌+◌, ◌∷◌, [], map, sym, ap, ◌∙◌, subst, arith}
 use Rattle.std.proofs.lemmas.List.{map-append}
 use Rattle.js_code.specs.View.{field_view, fields_of}

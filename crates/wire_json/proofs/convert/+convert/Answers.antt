@@ -1,3 +1,4 @@
+-- Items and members, one on: `items_next`, `items_last`, `members_next`.
 use Rattle.std.proofs.Common.{ap, ◌∙◌}
 use Rattle.elm_base.specs.Units.{text_units}
 use Rattle.wire_json.proofs.Converting.{items_next, items_last, members_next}

@@ -1,3 +1,4 @@
+-- What a step of the printer leaves: `comma`, `object_text`, `members_go_on`, `fronted_whole`.
 use Rattle.std.proofs.Common.{true, false, ap, ◌∙◌, sym, append-nil, arith}
 use Rattle.wire_json.proofs.Printing.{comma, object_text, members_go_on, fronted_whole}
 use Rattle.wire_json.proofs.object.put_members.Goals as goal

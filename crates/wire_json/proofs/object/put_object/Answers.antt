@@ -1,3 +1,4 @@
+-- What a step of the printer leaves: `after_two`, `object_left`.
 use Rattle.std.proofs.Common.{codes, refl}
 use Rattle.wire_json.specs.Text.{text_text}
 use Rattle.wire_json.proofs.Printing.{after_two, object_left}

@@ -1,3 +1,4 @@
+-- What a step of the printer leaves: `comma`, `list_text`, `items_go_on`, `fronted_whole`.
 use Rattle.std.proofs.Common.{true, false, ap, ◌∙◌, sym, append-nil, arith}
 use Rattle.wire_json.proofs.Printing.{comma, list_text, items_go_on, fronted_whole}
 use Rattle.wire_json.proofs.print.put_items.Goals as goal

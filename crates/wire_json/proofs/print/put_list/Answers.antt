@@ -1,3 +1,4 @@
+-- What a step of the printer leaves: `left_two`, `list_splits`.
 use Rattle.std.proofs.Common.{[], refl, sym, append-nil}
 use Rattle.wire_json.specs.declared.task.Task.TheVariants as task
 use Rattle.wire_json.proofs.Printing.{left_two, list_splits}

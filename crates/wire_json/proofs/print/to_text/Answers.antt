@@ -1,3 +1,4 @@
+-- What a step of the printer leaves: `next_whole`, `less_left`.
 use Rattle.wire_json.proofs.Printing.{next_whole, less_left}
 use Rattle.wire_json.proofs.print.to_text.Goals as goal
 

@@ -1,3 +1,4 @@
+-- The tree of a map from texts to files: `held_put`.
 use Rattle.std.proofs.Common.{ℕ, List, Some, ap, ◌∙◌}
 use Rattle.std.specs.String.{string_bytes}
 use Rattle.elm_files.specs.Memory.{files_in}

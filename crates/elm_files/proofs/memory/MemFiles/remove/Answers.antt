@@ -1,3 +1,4 @@
+-- The tree of a map from texts to files: `held_put`.
 use Rattle.elm_files.proofs.Held.{held_put}
 use Rattle.elm_files.proofs.memory.MemFiles.remove.Goals as goal
 

@@ -1,3 +1,4 @@
+-- Trees after the change of one file: `put_elsewhere`.
 use Rattle.std.proofs.Common.{None, Result, Ok, Err}
 use Rattle.elm_files.specs.Answers.{OnNoMemory}
 use Rattle.elm_files.specs.Memory.{files_in}

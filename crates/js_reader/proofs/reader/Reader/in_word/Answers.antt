@@ -1,3 +1,4 @@
+-- A word goes on as long as some word of the table begins so.
 use Rattle.std.proofs.Common.{◌≡◌, ◌++◌, ◌∷◌, [], List, ℕ, ap, sym, ◌∙◌}
 use Rattle.std.proofs.lemmas.Result.{on_ok_weaker}
 use Rattle.js_tree.specs.Automaton as machine

@@ -1,3 +1,4 @@
+-- The place that the table holds for a name is the place of its binding.
 use Rattle.std.proofs.Common.{◌∙◌, ap, sym, List, ℕ}
 use Rattle.std.specs.Prelude.{unwrap_or}
 use Rattle.js_tree.specs.Tree.{Top, Local}

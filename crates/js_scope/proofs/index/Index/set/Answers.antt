@@ -1,3 +1,4 @@
+-- What the index of names has after a change: `top_updated`, `local_updated`, `made_updated`.
 use Rattle.std.proofs.Common.{◌∙◌, ap, sym, refl}
 use Rattle.js_tree.specs.Tree.{Top, Local}
 use Rattle.js_tree.specs.Postorder.{name_view}

@@ -1,3 +1,4 @@
+-- The names that are bound, as they are kept: `length-bound_on`.
 use Rattle.std.proofs.Common.{◌∙◌, sym, ap, length, [], List, ℕ}
 use Rattle.js_scope.specs.Walk.{State, Bound}
 use Rattle.js_scope.specs.Scopes.{bound_on}

@@ -1,3 +1,4 @@
+-- The names that are bound, as they are kept: `length-bound_on`.
 use Rattle.std.proofs.Common.{◌∙◌, sym, ap, length}
 use Rattle.js_scope.specs.Walk.{State}
 use Rattle.js_scope.proofs.Bindings.{length-bound_on}

@@ -1,0 +1,4 @@
+//! Names that are shared: one text, many uses.
+#![tactic(auto)]
+
+pub mod name;
