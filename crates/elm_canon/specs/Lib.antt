@@ -1,0 +1,5 @@
+pub mod Names
+pub mod Unions
+pub mod Tree
+pub mod View
+pub mod Examples

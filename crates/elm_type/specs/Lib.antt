@@ -1,0 +1,10 @@
+pub mod Types
+pub mod Spelling
+pub mod Nodes
+pub mod Numbers
+pub mod View
+pub mod Schemes
+pub mod Classes
+pub mod Heads
+pub mod Rows
+pub mod Examples

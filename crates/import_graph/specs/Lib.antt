@@ -1,0 +1,4 @@
+pub mod Examples
+pub mod Order
+pub mod Rings
+pub mod View

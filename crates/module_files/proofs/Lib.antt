@@ -1,0 +1,4 @@
+-- the files of a module, directory by directory
+pub mod Finding
+-- the name of an entry, directory by directory
+pub mod Naming

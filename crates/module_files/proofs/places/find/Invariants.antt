@@ -1,0 +1,12 @@
+use Rattle.std.proofs.Common.{◌≡◌}
+use Rattle.std.specs.Prelude.{IfSome}
+use Rattle.module_files.proofs.Finding.{IsSoFar}
+use Rattle.module_files.proofs.places.find.Given as goal
+
+-- the files are as at the beginning, and what was found is what the directories so far have
+abbrev pub invariant-loop-directory : goal.invariant-loop-directory
+invariant-loop-directory g l = record {
+  so_far : IfSome (g.F.Files.tree l.fn.files) (λ tree. IsSoFar tree l.directories l.name l.directory-index l.found);
+  tree : g.F.Files.tree l.files ≡ g.F.Files.tree l.fn.files;
+  faults : g.F.Files.faults l.files ≡ g.F.Files.faults l.fn.files;
+}

@@ -1,0 +1,5 @@
+//! Where the modules of a project stand.
+#![tactic(auto)]
+
+pub mod entries;
+pub mod places;

@@ -1,0 +1,4 @@
+pub mod Examples
+pub mod Paths
+pub mod Project
+pub mod View
