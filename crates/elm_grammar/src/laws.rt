@@ -14,7 +14,7 @@ pub fn kinds_law()
 {}
 
 /// The derivation of a text has one value, and what the examples compute is what tokens spell.
-pub fn values_law()
+pub fn derivation_law()
     ensures some { EachHasValue }
     ensures one { OneValue }
     ensures computed { ReadSpells }

@@ -5,7 +5,7 @@ ghost use Rattle.elm_parser.specs.Laws.{OneOrOther, OneOrOtherFront, OneOrOtherT
 use elm_grammar::table::rows;
 
 /// Tokens spell at most one thing of a kind or have at most one fault, and not both.
-pub fn tokens_law()
+pub fn reading_law()
     ensures { OneOrOther }
 {
     let _plan = rows();

@@ -5,7 +5,7 @@ ghost use Rattle.import_graph.specs.Order.{IsOrder, IsRing};
 ghost use Rattle.import_graph.specs.Examples.{Diamond, Later, Circle, Alone};
 
 /// Modules have one order or one ring, and never both.
-pub fn order_law()
+pub fn module_order_law()
     ensures one_order { (uses : List (List ℕ)) (order other : List ℕ) → IsOrder uses [] order → IsOrder uses [] other
         → order ≡ other }
     ensures one_ring { (uses : List (List ℕ)) (ring other : List ℕ) → IsRing uses ring → IsRing uses other → ring

@@ -1,6 +1,6 @@
 -- One order or one ring, and never both: `one_order`, `one_ring`, `not_both`.
 use Rattle.import_graph.proofs.OneOrder.{one_order, one_ring, not_both}
-use Rattle.import_graph.proofs.laws.order_law.Goals as goal
+use Rattle.import_graph.proofs.laws.module_order_law.Goals as goal
 
 pub returns-clause-one_order : goal.returns-clause-one_order
 returns-clause-one_order c = λ uses order other o p. one_order o p
