@@ -21,7 +21,7 @@ write_text() { # BYTES
         yes 'A line of a block comment, which no line but the last one ends.' | head -c "$((block - 7))"
         printf '\n-}\n'
         cat "$main"
-        yes -- '-- A line of sixty-three characters, and the line feed behind it.' | cut -c 1-63 | head -n "$lines"
+        yes -- '-- A line of sixty-three characters, and the line feed after it.' | cut -c 1-63 | head -n "$lines"
     } >src/Main.elm
 }
 

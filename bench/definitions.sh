@@ -1,5 +1,5 @@
 #!/usr/bin/env bash
-# Times builds of modules of many definitions, each of which uses the one behind it, and of twice as many: the second time should be about
+# Times builds of modules of many definitions, each of which uses the one before it, and of twice as many: the second time should be about
 # twice the first. Then the same for one application with many arguments.
 set -u
 root="$(cd "$(dirname "$0")/.." && pwd)" || exit 1

@@ -245,7 +245,7 @@ module _ (name : Text) (c : List Rule) (options : List Text) (leaf : Plain c opt
   abbrev s : Shape
   s = leaf_shape name c
 
-  -- a word that goes to a place, where `tail` says what the words after it come to
+  -- a word that goes to a place, where `tail` says what the words after it give
   abbrev value_step : Walk → Text → List Text → Option Rule → Option (List Row)
   value_step w word rest o = unless (option_map_or (λ a. positional_fault c false a w.held) o (stray_fault s)) (outcome s (to_positional c o word w w.held) rest)
 

@@ -1,4 +1,5 @@
-//! Texts in quotes, all in ASCII, as JSON and the JavaScript of an output spell them alike. (RFC 8259, 7; ECMA-262, 12.9.4.)
+//! Texts in quotes, all in ASCII, as JSON and the JavaScript of an output spell them alike. (RFC 8259, 7; ECMA-262,
+//! 12.9.4.)
 
 ghost use Rattle.std.specs.Prelude.{◌≡◌, ◌<◌, ◌++◌, OnOk};
 ghost use Rattle.elm_base.specs.Quoted as spelled;

@@ -1,6 +1,7 @@
--- The canonical tree of a module, as plain data. (Elm guide: core language, types, pattern matching, modules, JavaScript
--- interop.) Each name is a local one or one of a module, each constructor has its union, and chains of operators and
--- brackets are gone. Names and texts are lists of UTF-16 units. `Located` says where an expression or a pattern begins.
+-- The canonical tree of a module, as plain data. (Elm guide: core language, types, pattern matching, modules,
+-- JavaScript interop.) Each name is a local one or one of a module, each constructor has its union, and chains of
+-- operators and brackets are gone. Names and texts are lists of UTF-16 units. `Located` says where an expression or a
+-- pattern begins.
 --
 -- The definitions of a `let` stand in groups, each after those that it uses. Each keeps the place where it is written
 -- and its annotation, so that the written order can be told.

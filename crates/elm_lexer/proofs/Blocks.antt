@@ -40,11 +40,11 @@ open_close t u e b = let f = ap ends_block e in true_false _ b f
 close_open : (t u : List ℕ) → t ≡ 45 ∷ 125 ∷ u → begins_block t ≡ true → ⊥
 close_open t u e b = let f = ap begins_block e in true_false _ b f
 
-behind_two : (a b : ℕ) (t u : List ℕ) → t ≡ a ∷ b ∷ u → u ≡ take (length t - 2) (drop 2 t)
-behind_two a b t u e = ap (drop 2) (sym e) ∙ sym (rest_of 2 t)
+after_two : (a b : ℕ) (t u : List ℕ) → t ≡ a ∷ b ∷ u → u ≡ take (length t - 2) (drop 2 t)
+after_two a b t u e = ap (drop 2) (sym e) ∙ sym (rest_of 2 t)
 
-behind_one : (c : ℕ) (t u : List ℕ) → t ≡ c ∷ u → u ≡ take (length t - 1) (drop 1 t)
-behind_one c t u e = ap (drop 1) (sym e) ∙ sym (rest_of 1 t)
+after_one : (c : ℕ) (t u : List ℕ) → t ≡ c ∷ u → u ≡ take (length t - 1) (drop 1 t)
+after_one c t u e = ap (drop 1) (sym e) ∙ sym (rest_of 1 t)
 
 pub opens_whole : (d : ℕ) (t r : List ℕ) → 0 < d → begins_block t ≡ true → IsBlock (d + 1) (take (length t - 2) (drop 2 t)) r → IsBlock d t r
 opens_whole zero t r lt b h = absurd (omega arith)
@@ -55,7 +55,7 @@ opens_only d t r lt b h = by (inside d t r h)
   where
     by : Inside d t r → IsBlock (d + 1) (take (length t - 2) (drop 2 t)) r
     by (is_ended z e) = absurd (omega (arith, z))
-    by (opens_first e u z f h) = at (omega (arith, z)) (behind_two 123 45 t u f) h
+    by (opens_first e u z f h) = at (omega (arith, z)) (after_two 123 45 t u f) h
     by (closes_first e u z f h) = absurd (close_open t u f b)
     by (other_first e c u z f p q h) = true_false _ b p
 
@@ -69,7 +69,7 @@ closes_only d t r lt b h = by (inside d t r h)
     by : Inside d t r → IsBlock (d - 1) (take (length t - 2) (drop 2 t)) r
     by (is_ended z e) = absurd (omega (arith, z))
     by (opens_first e u z f h) = absurd (open_close t u f b)
-    by (closes_first e u z f h) = at (omega (arith, z)) (behind_two 45 125 t u f) h
+    by (closes_first e u z f h) = at (omega (arith, z)) (after_two 45 125 t u f) h
     by (other_first e c u z f p q h) = true_false _ b q
 
 pub goes_whole : (d : ℕ) (t r : List ℕ) → 0 < d → 0 < length t → begins_block t ≡ false → ends_block t ≡ false → IsBlock d (take (length t - 1) (drop 1 t)) r → IsBlock d t r
@@ -84,7 +84,7 @@ goes_only d t r lt b e h = by (inside d t r h)
     by (is_ended z e) = absurd (omega (arith, z))
     by (opens_first k u z f h) = true_false _ (ap begins_block f) b
     by (closes_first k u z f h) = true_false _ (ap ends_block f) e
-    by (other_first k c u z f p q h) = at (sym z) (behind_one c t u f) h
+    by (other_first k c u z f p q h) = at (sym z) (after_one c t u f) h
 
 pub ended_whole : (d : ℕ) (t r : List ℕ) → d ≤ 0 → ((s : List ℕ) → IsBlock d r s → IsBlock 1 t s) → IsBlock 1 t r
 ended_whole d t r z h = h r (at (omega arith) refl ended)
@@ -215,7 +215,7 @@ block_no_gap t r b never h = by (gap t r h)
     by : Gap t r → ⊥
     by (white_first c e w) = white_block t r (45 ∷ drop 2 t) c e w (begins_as 123 45 t b)
     by (line_first l f) = line_block t (drop 2 t) l (begins_as 123 45 t b)
-    by (block_first u f h) = never r (at refl (behind_two 123 45 t u f) h)
+    by (block_first u f h) = never r (at refl (after_two 123 45 t u f) h)
 
 pub white_gap : (t : List ℕ) → begins_gap t ≡ true → begins_line t ≡ false → begins_block t ≡ false → IsGap t (take (length t - 1) (drop 1 t))
 white_gap [] b l k = absurd cc

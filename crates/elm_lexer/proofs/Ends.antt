@@ -8,7 +8,7 @@ use Rattle.std.specs.Str.{IsUtf8}
 use Rattle.elm_lexer.specs.Literals.{begins_literal, begins_lines, escapes, closes, line_length, lines_length}
 use Rattle.elm_lexer.specs.Literals.{literal_length}
 use Rattle.elm_lexer.proofs.Basics.{and_true, not_true, eq_true, front_of}
-use Rattle.elm_lexer.proofs.Texts.{behind_ascii, from_ascii}
+use Rattle.elm_lexer.proofs.Texts.{after_ascii, from_ascii}
 
 -- a literal of m bytes ends in the text, which n bytes of it precede, with a character below 128
 pub record Ended (t : List ℕ) (n m : ℕ) : Type 0 where
@@ -129,4 +129,4 @@ literal_parts t m w = record { some = omega (arith, w.long); long = sym (ap leng
     cut = front_of t (w.body ++ w.last ∷ []) w.rest m whole front
 
     after : IsUtf8 t → IsUtf8 (drop m t)
-    after u = subst (λ x. IsUtf8 x) cut.1 (behind_ascii w.last w.rest w.low (from_ascii w.body w.last w.rest w.low (subst (λ x. IsUtf8 x) w.whole u)))
+    after u = subst (λ x. IsUtf8 x) cut.1 (after_ascii w.last w.rest w.low (from_ascii w.body w.last w.rest w.low (subst (λ x. IsUtf8 x) w.whole u)))

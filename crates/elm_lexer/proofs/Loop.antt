@@ -12,7 +12,7 @@ use Rattle.elm_lexer.specs.declared.first.First.{First}
 use Rattle.elm_lexer.specs.declared.first.First.TheVariants as first
 use Rattle.elm_lexer.specs.Firsts.{IsFirst, first_in}
 use Rattle.elm_lexer.specs.Gaps.{begins_gap, IsGap}
-use Rattle.elm_lexer.specs.Tokens.{Place, Token, Fault, behind, token_at, fault_at, Reads, no_more, open_comment, token}
+use Rattle.elm_lexer.specs.Tokens.{Place, Token, Fault, place_after, token_at, fault_at, Reads, no_more, open_comment, token}
 use Rattle.elm_lexer.specs.Tokens.{first_place, HasFault, not_utf8, ends}
 use Rattle.elm_lexer.proofs.Basics.{front_of}
 use Rattle.elm_lexer.proofs.Blocks.{gap_end}
@@ -37,20 +37,20 @@ gap_body t r g = let w = gap_end t r g in at w.0 w.1
         let s = front_of t body r (length t - length r) e (omega (arith, length-append body r, ap length e)) in
         e ∙ ap (λ x. x ++ r) s.0
 
-gap_turn : (text : List ℕ) (found : List Token) (p q : Place) (touched : Bool) (t r body : List ℕ) → Cuts text found p touched t → IsGap t r → body ≡ take (length t - length r) t → q ≡ behind p body → Cuts text found q true r
+gap_turn : (text : List ℕ) (found : List Token) (p q : Place) (touched : Bool) (t r body : List ℕ) → Cuts text found p touched t → IsGap t r → body ≡ take (length t - length r) t → q ≡ place_after p body → Cuts text found q true r
 gap_turn text found p q touched t r body h g i e = subst (λ x. Cuts text found x true r) (sym e) (record { whole = whole })
   where
     whole_text : t ≡ body ++ r
     whole_text = gap_body t r g ∙ ap (λ x. x ++ r) (sym i)
 
-    whole : (ts : List Token) (end : Option Fault) → Reads (behind p body) true r ts end → Reads first_place false text (found ++ ts) end
+    whole : (ts : List Token) (end : Option Fault) → Reads (place_after p body) true r ts end → Reads first_place false text (found ++ ts) end
     whole ts end k = h.whole ts end (gap_whole p touched t r body ts end whole_text g k)
 
-pub token_turn : (text : List ℕ) (found more : List Token) (p q : Place) (touched : Bool) (t rest : List ℕ) (kind : Kind) (n : ℕ) → Cuts text found p touched t → begins_gap t ≡ false → IsFirst t (first.Token kind n) → rest ≡ drop n t → more ≡ found ++ token_at p touched (take n t) kind (drop n t) ∷ [] → q ≡ behind p (take n t) → Cuts text more q false rest
+pub token_turn : (text : List ℕ) (found more : List Token) (p q : Place) (touched : Bool) (t rest : List ℕ) (kind : Kind) (n : ℕ) → Cuts text found p touched t → begins_gap t ≡ false → IsFirst t (first.Token kind n) → rest ≡ drop n t → more ≡ found ++ token_at p touched (take n t) kind (drop n t) ∷ [] → q ≡ place_after p (take n t) → Cuts text more q false rest
 token_turn text found more p q touched t rest kind n h b f j m e =
-    subst (λ x. Cuts text more q false x) (sym j) (subst (λ x. Cuts text more x false (drop n t)) (sym e) (subst (λ x. Cuts text x (behind p (take n t)) false (drop n t)) (sym m) (record { whole = whole })))
+    subst (λ x. Cuts text more q false x) (sym j) (subst (λ x. Cuts text more x false (drop n t)) (sym e) (subst (λ x. Cuts text x (place_after p (take n t)) false (drop n t)) (sym m) (record { whole = whole })))
   where
-    whole : (ts : List Token) (end : Option Fault) → Reads (behind p (take n t)) false (drop n t) ts end → Reads first_place false text (found ++ token_at p touched (take n t) kind (drop n t) ∷ [] ++ ts) end
+    whole : (ts : List Token) (end : Option Fault) → Reads (place_after p (take n t)) false (drop n t) ts end → Reads first_place false text (found ++ token_at p touched (take n t) kind (drop n t) ∷ [] ++ ts) end
     whole ts end a =
         subst (λ x. Reads first_place false text x end) (sym (append_assoc found (token_at p touched (take n t) kind (drop n t) ∷ []) ts))
         (h.whole _ end (token b f a))
@@ -76,7 +76,7 @@ no_text_found text f never e = subst (λ x. HasFault text x) (sym (e ∙ ap at (
     nothing (c ∷ cs) = refl
 
     at : List ℕ → Fault
-    at front = record { code = fault_code.NotUtf8; place = behind first_place front; detail = front }
+    at front = record { code = fault_code.NotUtf8; place = place_after first_place front; detail = front }
 
 -- ---- from the program's tests
 
@@ -109,7 +109,7 @@ gap_cut t bytes r n u same g l = at (gap_end t r own)
         let s = front_of t w.0 r n w.1 long in
         (subst (λ k. IsCharBoundary t k) long (IsCharBoundary-at_seam t w.0 r w.1 (gap_text t r u own)), s.1)
 
-pub gap_step : (text : List ℕ) (found : List Token) (p q : Place) (touched : Bool) (t bytes r body rest : List ℕ) (n : ℕ) → Cuts text found p touched t → IsUtf8 t → bytes ≡ t → IsGap bytes r → n ≡ length bytes - length r → body ≡ take n bytes → rest ≡ drop n t → q ≡ behind p body → Cuts text found q true rest
+pub gap_step : (text : List ℕ) (found : List Token) (p q : Place) (touched : Bool) (t bytes r body rest : List ℕ) (n : ℕ) → Cuts text found p touched t → IsUtf8 t → bytes ≡ t → IsGap bytes r → n ≡ length bytes - length r → body ≡ take n bytes → rest ≡ drop n t → q ≡ place_after p body → Cuts text found q true rest
 gap_step text found p q touched t bytes r body rest n h u same g l i j e =
     let cut = gap_cut t bytes r n u same g l in
     let own : IsGap t r = subst (λ x. IsGap x r) same g in
@@ -124,9 +124,9 @@ token_boundary t kind n u f = let c = token_cut t kind n f in IsCharBoundary-fro
 abbrev pub token_made : Place → Bool → Kind → List ℕ → Bool → Token
 token_made p touched kind piece b = record { kind = kind; text = piece; start = p; space_before = touched; space_after = b }
 
-pub token_step : (text : List ℕ) (found more : List Token) (p q : Place) (touched b : Bool) (t bytes piece after rest : List ℕ) (kind : Kind) (n : ℕ) → Cuts text found p touched t → bytes ≡ t → begins_gap bytes ≡ false → IsFirst t (first.Token kind n) → piece ≡ take n bytes → after ≡ drop n bytes → b ≡ begins_gap after → more ≡ found ++ token_made p touched kind piece b ∷ [] → q ≡ behind p piece → rest ≡ drop n t → Cuts text more q false rest
+pub token_step : (text : List ℕ) (found more : List Token) (p q : Place) (touched b : Bool) (t bytes piece after rest : List ℕ) (kind : Kind) (n : ℕ) → Cuts text found p touched t → bytes ≡ t → begins_gap bytes ≡ false → IsFirst t (first.Token kind n) → piece ≡ take n bytes → after ≡ drop n bytes → b ≡ begins_gap after → more ≡ found ++ token_made p touched kind piece b ∷ [] → q ≡ place_after p piece → rest ≡ drop n t → Cuts text more q false rest
 token_step text found more p q touched b t bytes piece after rest kind n h same gap f i j k m e l =
-    token_turn text found more p q touched t rest kind n h (ap begins_gap (sym same) ∙ gap) f l (m ∙ ap (λ (x : Token). found ++ x ∷ []) made) (e ∙ ap (λ x. behind p x) front)
+    token_turn text found more p q touched t rest kind n h (ap begins_gap (sym same) ∙ gap) f l (m ∙ ap (λ (x : Token). found ++ x ∷ []) made) (e ∙ ap (λ x. place_after p x) front)
   where
     front : piece ≡ take n t
     front = i ∙ ap (λ (x : List ℕ). take n x) same

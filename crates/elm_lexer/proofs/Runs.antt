@@ -152,17 +152,17 @@ push_upper (d ∷ ds) c h e = let v = and_true _ _ h in both_true _ _ v.0 (push_
 
 -- what goes on a name is a name after a word, and alone where it begins with a letter
 pub record Names (p : List ℕ) : Type 0 where
-  pub behind : (upper : Bool) (w : List ℕ) → is_word w ≡ true → (upper ≡ true → is_upper_word w ≡ true) → goes upper p ≡ true → IsName (w ++ p)
+  pub grown : (upper : Bool) (w : List ℕ) → is_word w ≡ true → (upper ≡ true → is_upper_word w ≡ true) → goes upper p ≡ true → IsName (w ++ p)
   pub alone : begins_letter p ≡ true → goes (begins_upper p) p ≡ true → IsName p
 
 pub names : (p : List ℕ) → Names p
-names [] = record { behind = λ upper w h u g. subst (λ n. IsName n) (sym (append-nil w)) (word h); alone = λ e g. absurd cc }
-names (c ∷ cs) = record { behind = λ upper w h u g. at (names cs) upper w h u g (is_name_char c) refl; alone = λ e g. one (names cs) e g }
+names [] = record { grown = λ upper w h u g. subst (λ n. IsName n) (sym (append-nil w)) (word h); alone = λ e g. absurd cc }
+names (c ∷ cs) = record { grown = λ upper w h u g. at (names cs) upper w h u g (is_name_char c) refl; alone = λ e g. one (names cs) e g }
   where
     at : Names cs → (upper : Bool) (w : List ℕ) → is_word w ≡ true → (upper ≡ true → is_upper_word w ≡ true) → goes upper (c ∷ cs) ≡ true → (b : Bool) → is_name_char c ≡ b → IsName (w ++ c ∷ cs)
     at later upper w h u g true e =
         subst (λ n. IsName n) (append_assoc w (c ∷ []) cs)
-        (later.behind upper (w ++ c ∷ []) (push_word w c h e) (λ k. push_upper w c (u k) e) (rw e at g))
+        (later.grown upper (w ++ c ∷ []) (push_word w c h e) (λ k. push_upper w c (u k) e) (rw e at g))
     at later upper w h u g false e =
         let v = and_true (upper && (c == 46 && begins_letter cs)) (goes (begins_upper cs) cs) (rw e at g) in
         let x = and_true upper (c == 46 && begins_letter cs) v.0 in
@@ -172,7 +172,7 @@ names (c ∷ cs) = record { behind = λ upper w h u g. at (names cs) upper w h u
     one : Names cs → is_letter c ≡ true → goes (is_upper c) (c ∷ cs) ≡ true → IsName (c ∷ cs)
     one later e g =
         let n = letter_name c e in
-        later.behind (is_upper c) (c ∷ []) (both_true _ _ e refl) (λ k. both_true _ _ k refl) (rw n at g)
+        later.grown (is_upper c) (c ∷ []) (both_true _ _ e refl) (λ k. both_true _ _ k refl) (rw n at g)
 
 all_goes : (upper : Bool) (cs : List ℕ) → list_all is_name_char cs ≡ true → goes upper cs ≡ true
 all_goes upper [] h = refl

@@ -3,7 +3,7 @@ use Rattle.std.proofs.Common.{◌≡◌, ℕ, List, [], ◌∷◌, ◌++◌, tak
 use Rattle.std.proofs.Common.{ap, ◌∙◌, arith}
 use Rattle.std.specs.Str.{IsUtf8}
 use Rattle.elm_base.specs.declared.fault.Code.TheVariants as fault_code
-use Rattle.elm_lexer.specs.Tokens.{Place, Token, Fault, Tokens, behind, token_at, fault_at, Reads, no_more, gap}
+use Rattle.elm_lexer.specs.Tokens.{Place, Token, Fault, Tokens, place_after, token_at, fault_at, Reads, no_more, gap}
 use Rattle.elm_lexer.specs.Tokens.{open_comment, token, fault, first_place, HasFault, not_utf8, ends}
 use Rattle.elm_lexer.proofs.Starts.{token_cut}
 use Rattle.elm_lexer.proofs.Texts.{gap_text}
@@ -24,12 +24,12 @@ no_end us g w = record { tokens = sym w.0; end = sym w.1 }
 pub same_reads : (p : Place) (touched : Bool) (t : List ℕ) (ts us : List Token) (e f : Option Fault) → IsUtf8 t → Reads p touched t ts e → Reads p touched t us f → AreSame ts us e f
 same_reads p touched _ _ us _ g u no_more k = no_end us g (end_only p touched [] us g refl k)
 same_reads p touched _ ts us e g u (gap {rest = rest} body i h) k =
-    same_reads (behind p body) true rest ts us e g (gap_text (body ++ rest) rest u i) h (gap_only p touched (body ++ rest) rest body us g refl i k)
+    same_reads (place_after p body) true rest ts us e g (gap_text (body ++ rest) rest u i) h (gap_only p touched (body ++ rest) rest body us g refl i k)
 same_reads p touched t _ us _ g u (open_comment b never) k = one_end us g (fault_at p t fault_code.Unclosed 0 0) (open_only p touched t us g b never k)
 same_reads p touched t _ us e g u (token {kind = kind} {n = n} {ts = ts} b f h) k =
     let w = token_only p touched t kind n us g u b f k in
     let cut = token_cut t kind n f in
-    let same = same_reads (behind p (take n t)) false (drop n t) ts w.others e g (cut.after u) h w.reads in
+    let same = same_reads (place_after p (take n t)) false (drop n t) ts w.others e g (cut.after u) h w.reads in
     record { tokens = ap (λ (xs : List Token). token_at p touched (take n t) kind (drop n t) ∷ xs) same.tokens ∙ sym w.whole; end = same.end }
 same_reads p touched _ _ us _ g u (fault {c = c} {cs = cs} {code = x} {before = before} {detail = detail} b f) k =
     one_end us g (fault_at p (c ∷ cs) x before detail) (fault_only p touched (c ∷ cs) x before detail us g u b (omega arith) f k)

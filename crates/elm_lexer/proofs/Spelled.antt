@@ -1,4 +1,5 @@
--- Each text and character among the tokens spells its value: its escapes are the language's, and its units are what they stand for.
+-- Each text and character among the tokens spells its value: its escapes are the language's, and its units are what
+-- they stand for.
 use Rattle.std.proofs.Common.{◌≡◌, ℕ, List, [], ◌∷◌, ◌++◌, length, take, drop, Bool, true, false, ◌==◌, Option, Some}
 use Rattle.std.proofs.Common.{None, sym, refl, ap, subst, ◌∙◌, arith}
 use Rattle.std.specs.Prelude.{encode_utf8_all}

@@ -10,7 +10,7 @@ use Rattle.elm_lexer.specs.declared.first.First.{First}
 use Rattle.elm_lexer.specs.declared.first.First.TheVariants as first
 use Rattle.elm_lexer.specs.Firsts.{IsFirst}
 use Rattle.elm_lexer.specs.Gaps.{begins_gap, IsGap}
-use Rattle.elm_lexer.specs.Tokens.{Place, Token, Fault, behind, token_at, fault_at, Reads, no_more, gap, open_comment}
+use Rattle.elm_lexer.specs.Tokens.{Place, Token, Fault, place_after, token_at, fault_at, Reads, no_more, gap, open_comment}
 use Rattle.elm_lexer.specs.Tokens.{token, fault}
 use Rattle.elm_lexer.proofs.Basics.{true_false}
 use Rattle.elm_lexer.proofs.Blocks.{gap_same, gap_begins}
@@ -19,9 +19,9 @@ use Rattle.elm_lexer.proofs.Starts.{first_same, token_cut}
 -- the rule by which a text has these tokens and this end
 data Rule (p : Place) (touched : Bool) (t : List ℕ) (ts : List Token) (end : Option Fault) : Type 0 where
   at_end : t ≡ [] → ts ≡ [] → end ≡ None → Rule p touched t ts end
-  at_gap : (body rest : List ℕ) → t ≡ body ++ rest → IsGap t rest → Reads (behind p body) true rest ts end → Rule p touched t ts end
+  at_gap : (body rest : List ℕ) → t ≡ body ++ rest → IsGap t rest → Reads (place_after p body) true rest ts end → Rule p touched t ts end
   at_open : begins_gap t ≡ true → ((rest : List ℕ) → IsGap t rest → ⊥) → ts ≡ [] → end ≡ Some (fault_at p t fault_code.Unclosed 0 0) → Rule p touched t ts end
-  at_token : (kind : Kind) (n : ℕ) (us : List Token) → begins_gap t ≡ false → IsFirst t (first.Token kind n) → Reads (behind p (take n t)) false (drop n t) us end → ts ≡ token_at p touched (take n t) kind (drop n t) ∷ us → Rule p touched t ts end
+  at_token : (kind : Kind) (n : ℕ) (us : List Token) → begins_gap t ≡ false → IsFirst t (first.Token kind n) → Reads (place_after p (take n t)) false (drop n t) us end → ts ≡ token_at p touched (take n t) kind (drop n t) ∷ us → Rule p touched t ts end
   at_fault : (c : Code) (before detail : ℕ) → begins_gap t ≡ false → 0 < length t → IsFirst t (first.Fault c before detail) → ts ≡ [] → end ≡ Some (fault_at p t c before detail) → Rule p touched t ts end
 
 rule : (p : Place) (touched : Bool) (t : List ℕ) (ts : List Token) (end : Option Fault) → Reads p touched t ts end → Rule p touched t ts end
@@ -37,17 +37,17 @@ Ends ts end f = (ts ≡ []) × (end ≡ Some f)
 
 -- ---- a text that begins with a gap
 
-pub gap_whole : (p : Place) (touched : Bool) (t r body : List ℕ) (ts : List Token) (end : Option Fault) → t ≡ body ++ r → IsGap t r → Reads (behind p body) true r ts end → Reads p touched t ts end
+pub gap_whole : (p : Place) (touched : Bool) (t r body : List ℕ) (ts : List Token) (end : Option Fault) → t ≡ body ++ r → IsGap t r → Reads (place_after p body) true r ts end → Reads p touched t ts end
 gap_whole p touched t r body ts end e g h =
     subst (λ u. Reads p touched u ts end) (sym e) (gap body (subst (λ u. IsGap u r) e g) h)
 
-pub gap_only : (p : Place) (touched : Bool) (t r body : List ℕ) (ts : List Token) (end : Option Fault) → t ≡ body ++ r → IsGap t r → Reads p touched t ts end → Reads (behind p body) true r ts end
+pub gap_only : (p : Place) (touched : Bool) (t r body : List ℕ) (ts : List Token) (end : Option Fault) → t ≡ body ++ r → IsGap t r → Reads p touched t ts end → Reads (place_after p body) true r ts end
 gap_only p touched t r body ts end e g h = by (rule p touched t ts end h)
   where
-    moved : (b s : List ℕ) → body ≡ b → r ≡ s → Reads (behind p b) true s ts end → Reads (behind p body) true r ts end
-    moved b s i j k = subst (λ x. Reads (behind p body) true x ts end) (sym j) (subst (λ x. Reads (behind p x) true s ts end) (sym i) k)
+    moved : (b s : List ℕ) → body ≡ b → r ≡ s → Reads (place_after p b) true s ts end → Reads (place_after p body) true r ts end
+    moved b s i j k = subst (λ x. Reads (place_after p body) true x ts end) (sym j) (subst (λ x. Reads (place_after p x) true s ts end) (sym i) k)
 
-    by : Rule p touched t ts end → Reads (behind p body) true r ts end
+    by : Rule p touched t ts end → Reads (place_after p body) true r ts end
     by (at_end f z y) = true_false _ (gap_begins t r g) (ap begins_gap f)
     by (at_gap b s f k h) =
         let j = gap_same t r s g k in
@@ -73,7 +73,7 @@ open_only p touched t ts end b never h = by (rule p touched t ts end h)
 pub record Begins (p : Place) (touched : Bool) (t : List ℕ) (kind : Kind) (n : ℕ) (ts : List Token) (end : Option Fault) : Type 0 where
   pub others : List Token
   pub whole : ts ≡ token_at p touched (take n t) kind (drop n t) ∷ others
-  pub reads : Reads (behind p (take n t)) false (drop n t) others end
+  pub reads : Reads (place_after p (take n t)) false (drop n t) others end
 
 pub token_only : (p : Place) (touched : Bool) (t : List ℕ) (kind : Kind) (n : ℕ) (ts : List Token) (end : Option Fault) → IsUtf8 t → begins_gap t ≡ false → IsFirst t (first.Token kind n) → Reads p touched t ts end → Begins p touched t kind n ts end
 token_only p touched t kind n ts end u b f h = by (rule p touched t ts end h)
@@ -84,12 +84,12 @@ token_only p touched t kind n ts end u b f h = by (rule p touched t ts end h)
     same : (g : First) → IsFirst t g → g ≡ first.Token kind n
     same g i = first_same t g u i ∙ sym (first_same t (first.Token kind n) u f)
 
-    moved : (k : Kind) (m : ℕ) (us : List Token) → k ≡ kind → m ≡ n → Reads (behind p (take m t)) false (drop m t) us end → ts ≡ token_at p touched (take m t) k (drop m t) ∷ us → Begins p touched t kind n ts end
+    moved : (k : Kind) (m : ℕ) (us : List Token) → k ≡ kind → m ≡ n → Reads (place_after p (take m t)) false (drop m t) us end → ts ≡ token_at p touched (take m t) k (drop m t) ∷ us → Begins p touched t kind n ts end
     moved k m us i j h z =
         record {
           others = us;
           whole = subst (λ (x : Kind). ts ≡ token_at p touched (take n t) x (drop n t) ∷ us) i (subst (λ (x : ℕ). ts ≡ token_at p touched (take x t) k (drop x t) ∷ us) j z);
-          reads = subst (λ (x : ℕ). Reads (behind p (take x t)) false (drop x t) us end) j h;
+          reads = subst (λ (x : ℕ). Reads (place_after p (take x t)) false (drop x t) us end) j h;
         }
 
     kinds : (k : Kind) (m : ℕ) → first.Token k m ≡ first.Token kind n → k ≡ kind

@@ -11,9 +11,9 @@ use Rattle.elm_lexer.specs.Pieces.{IsCut}
 use Rattle.elm_lexer.proofs.Blocks.{line_end, block_nothing}
 use Rattle.elm_lexer.proofs.Basics.{eq_true}
 
-behind_front : (xs ys : List ℕ) → drop (length xs) (xs ++ ys) ≡ ys
-behind_front [] ys = refl
-behind_front (x ∷ xs) ys = behind_front xs ys
+after_front : (xs ys : List ℕ) → drop (length xs) (xs ++ ys) ≡ ys
+after_front [] ys = refl
+after_front (x ∷ xs) ys = after_front xs ys
 
 front_itself : (xs ys : List ℕ) → take (length xs) (xs ++ ys) ≡ xs
 front_itself [] ys = refl
@@ -24,20 +24,20 @@ at_front [] c cs = refl
 at_front (x ∷ xs) c cs = at_front xs c cs
 
 -- after a character below 128
-pub behind_ascii : (c : ℕ) (cs : List ℕ) → c < 128 → IsUtf8 (c ∷ cs) → IsUtf8 cs
-behind_ascii c cs h u = IsUtf8-drop (c ∷ cs) 1 u (IsCharBoundary-after_ascii (c ∷ cs) 0 u (omega arith) h)
+pub after_ascii : (c : ℕ) (cs : List ℕ) → c < 128 → IsUtf8 (c ∷ cs) → IsUtf8 cs
+after_ascii c cs h u = IsUtf8-drop (c ∷ cs) 1 u (IsCharBoundary-after_ascii (c ∷ cs) 0 u (omega arith) h)
 
 -- from a character below 128 on
 pub from_ascii : (xs : List ℕ) (c : ℕ) (cs : List ℕ) → c < 128 → IsUtf8 (xs ++ c ∷ cs) → IsUtf8 (c ∷ cs)
 from_ascii xs c cs h u =
-    subst (λ x. IsUtf8 x) (behind_front xs (c ∷ cs))
+    subst (λ x. IsUtf8 x) (after_front xs (c ∷ cs))
     (IsUtf8-drop (xs ++ c ∷ cs) (length xs) u
     (IsCharBoundary-before_ascii (xs ++ c ∷ cs) (length xs) (omega (arith, length-append xs (c ∷ cs))) (subst (λ x. x < 128) (sym (at_front xs c cs)) h)))
 
 -- after a text
-behind_text : (xs ys : List ℕ) → IsUtf8 (xs ++ ys) → IsUtf8 xs → IsUtf8 ys
-behind_text xs ys u v =
-    subst (λ x. IsUtf8 x) (behind_front xs ys)
+after_text : (xs ys : List ℕ) → IsUtf8 (xs ++ ys) → IsUtf8 xs → IsUtf8 ys
+after_text xs ys u v =
+    subst (λ x. IsUtf8 x) (after_front xs ys)
     (IsUtf8-drop (xs ++ ys) (length xs) u
     (IsCharBoundary-from_take (xs ++ ys) (length xs) u (omega (arith, length-append xs ys)) (subst (λ x. IsUtf8 x) (sym (front_itself xs ys)) v)))
 
@@ -65,7 +65,7 @@ white_byte : (c : ℕ) → is_white c ≡ true → c < 128
 white_byte c e = grind (arith, nat_tests)
 
 pub gap_text : (t r : List ℕ) → IsUtf8 t → IsGap t r → IsUtf8 r
-gap_text _ r u (white {c} e) = behind_ascii c r (white_byte c e) u
+gap_text _ r u (white {c} e) = after_ascii c r (white_byte c e) u
 gap_text t _ u (line e) = by (line_next t)
   where
     by : after_line t ≡ [] ⊎ ((rest : List ℕ) × (after_line t ≡ 10 ∷ rest)) → IsUtf8 (after_line t)
@@ -75,7 +75,7 @@ gap_text t _ u (line e) = by (line_next t)
         subst (λ x. IsUtf8 x) (sym w.1) (from_ascii b.0 10 w.0 (omega arith) (subst (λ x. IsUtf8 x) (b.1 ∙ ap (λ x. b.0 ++ x) w.1) u))
 gap_text _ r u (block {text} b) =
     let w = block_last 1 text r b (omega arith) in
-    behind_ascii 125 r (omega arith) (from_ascii (123 ∷ 45 ∷ w.0) 125 r (omega arith) (subst (λ x. IsUtf8 x) (ap (λ (xs : List ℕ). 123 ∷ 45 ∷ xs) w.1) u))
+    after_ascii 125 r (omega arith) (from_ascii (123 ∷ 45 ∷ w.0) 125 r (omega arith) (subst (λ x. IsUtf8 x) (ap (λ (xs : List ℕ). 123 ∷ 45 ∷ xs) w.1) u))
 
 pub cut_text : (t p r : List ℕ) → IsUtf8 t → IsCut t p r → IsUtf8 r
-cut_text t p r u c = behind_text p r (subst (λ x. IsUtf8 x) c.whole u) c.is_piece.0
+cut_text t p r u c = after_text p r (subst (λ x. IsUtf8 x) c.whole u) c.is_piece.0

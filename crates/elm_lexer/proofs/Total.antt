@@ -10,7 +10,7 @@ use Rattle.elm_lexer.specs.declared.first.First.TheVariants as first
 use Rattle.elm_lexer.specs.Firsts.{IsFirst, first_in}
 use Rattle.elm_lexer.specs.Gaps.{begins_line, begins_block, ends_block, begins_gap, after_line, IsBlock, ended, IsGap}
 use Rattle.elm_lexer.specs.Gaps.{white, line, block}
-use Rattle.elm_lexer.specs.Tokens.{Place, Token, Fault, behind, token_at, fault_at, Reads, no_more, open_comment, token}
+use Rattle.elm_lexer.specs.Tokens.{Place, Token, Fault, place_after, token_at, fault_at, Reads, no_more, open_comment, token}
 use Rattle.elm_lexer.specs.Tokens.{fault, first_place, not_utf8, ends, no_text, HasTokens, IsFaulty}
 use Rattle.elm_lexer.proofs.Basics.{true_false, rest_of}
 use Rattle.elm_lexer.proofs.Blocks.{begins_as, opens_whole, opens_only, closes_whole, closes_only, goes_whole}
@@ -102,14 +102,14 @@ total (suc n) (c ∷ cs) l u p touched = at (λ t k v q x. total n t k v q x) (b
     by_gap : ((t : List ℕ) → length t ≤ n → IsUtf8 t → (p : Place) (touched : Bool) → Outcome p touched t) → begins_gap (c ∷ cs) ≡ true → GapEnd (c ∷ cs) → Outcome p touched (c ∷ cs)
     by_gap later b (inl w) =
         let body = gap_end (c ∷ cs) w.0 w.1 in
-        let o = later w.0 (omega (arith, l, gap_shorter (c ∷ cs) w.0 w.1)) (gap_text (c ∷ cs) w.0 u w.1) (behind p body.0) true in
+        let o = later w.0 (omega (arith, l, gap_shorter (c ∷ cs) w.0 w.1)) (gap_text (c ∷ cs) w.0 u w.1) (place_after p body.0) true in
         record { tokens = o.tokens; end = o.end; reads = gap_whole p touched (c ∷ cs) w.0 body.0 o.tokens o.end body.1 w.1 o.reads }
     by_gap later b (inr never) = record { tokens = []; end = Some (fault_at p (c ∷ cs) fault_code.Unclosed 0 0); reads = open_comment b never }
 
     by_first : ((t : List ℕ) → length t ≤ n → IsUtf8 t → (p : Place) (touched : Bool) → Outcome p touched t) → begins_gap (c ∷ cs) ≡ false → (f : First) → IsFirst (c ∷ cs) f → Outcome p touched (c ∷ cs)
     by_first later b (first.Token kind k) f =
         let cut = token_cut (c ∷ cs) kind k f in
-        let o = later (drop k (c ∷ cs)) (omega (arith, l, cut.some, cut.within, length-drop {A = ℕ} k (c ∷ cs))) (cut.after u) (behind p (take k (c ∷ cs))) false in
+        let o = later (drop k (c ∷ cs)) (omega (arith, l, cut.some, cut.within, length-drop {A = ℕ} k (c ∷ cs))) (cut.after u) (place_after p (take k (c ∷ cs))) false in
         record { tokens = token_at p touched (take k (c ∷ cs)) kind (drop k (c ∷ cs)) ∷ o.tokens; end = o.end; reads = token b f o.reads }
     by_first later b (first.Fault x before detail) f = record { tokens = []; end = Some (fault_at p (c ∷ cs) x before detail); reads = fault b f }
 

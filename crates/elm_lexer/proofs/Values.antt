@@ -23,7 +23,7 @@ use Rattle.elm_lexer.specs.Tokens.{Tokens}
 use Rattle.elm_lexer.proofs.Basics.{true_false, front_of}
 use Rattle.elm_lexer.proofs.Ends.{is_open, LineEnd, line_ended, lines_begin, Closed, lines_closed, quote_low}
 use Rattle.elm_lexer.proofs.Starts.{TokenOf, of_piece, of_literal, token_is, token_cut}
-use Rattle.elm_lexer.proofs.Texts.{behind_ascii, at_front, gap_text}
+use Rattle.elm_lexer.proofs.Texts.{after_ascii, at_front, gap_text}
 
 -- ---- the kind of a piece is that of no literal
 
@@ -144,7 +144,8 @@ no_lines t x r e k = by_test (begins_lines x) refl
     by_test true z = true_false _ (ap begins_lines e ∙ begins_more x r z) k
     by_test false z = z
 
--- a literal: its quote, what stands between the quotes, and that the scans of the literal are those of what stands there
+-- a literal: its quote, what stands between the quotes, and that the scans of the literal are those of what stands
+-- there
 pub record Quoted (t : List ℕ) (n : ℕ) : Type 0 where
   pub mark : ℕ
   pub body : List ℕ
@@ -185,7 +186,7 @@ literal_quoted (c ∷ cs) n u b l = at (begins_lines (c ∷ cs)) refl
         let size : length (34 ∷ 34 ∷ 34 ∷ (w.body ++ 34 ∷ 34 ∷ 34 ∷ [])) ≡ n = omega (arith, w.long, length-append w.body (34 ∷ 34 ∷ 34 ∷ [])) in
         let front = front_of (c ∷ cs) (34 ∷ 34 ∷ 34 ∷ (w.body ++ 34 ∷ 34 ∷ 34 ∷ [])) w.rest n cut size in
         let text : IsUtf8 (34 ∷ 34 ∷ 34 ∷ (w.body ++ 34 ∷ 34 ∷ 34 ∷ w.rest)) = subst (λ y. IsUtf8 y) whole u in
-        let inside = behind_ascii 34 _ (omega arith) (behind_ascii 34 _ (omega arith) (behind_ascii 34 _ (omega arith) text)) in
+        let inside = after_ascii 34 _ (omega arith) (after_ascii 34 _ (omega arith) (after_ascii 34 _ (omega arith) text)) in
         quoted (34 ∷ 34 ∷ 34 ∷ (w.body ++ 34 ∷ 34 ∷ 34 ∷ [])) w.body (34 ∷ 34 ∷ []) 34 3 front.0 refl (omega (arith, size, w.long)) (lines_body w.body) (up_to_ascii w.body 34 (34 ∷ 34 ∷ w.rest) (omega arith) inside) refl w.closed (λ k. absurd cc)
 
     of_line : begins_lines (c ∷ cs) ≡ false → LineEnd c false cs 1 n → Quoted (c ∷ cs) n
@@ -193,7 +194,7 @@ literal_quoted (c ∷ cs) n u b l = at (begins_lines (c ∷ cs)) refl
         let cut : c ∷ cs ≡ (c ∷ (w.body ++ c ∷ [])) ++ w.rest = ap (λ (xs : List ℕ). c ∷ xs) (w.whole ∙ sym (append_assoc w.body (c ∷ []) w.rest)) in
         let size : length (c ∷ (w.body ++ c ∷ [])) ≡ n = omega (arith, w.long, length-append w.body (c ∷ [])) in
         let front = front_of (c ∷ cs) (c ∷ (w.body ++ c ∷ [])) w.rest n cut size in
-        let inside : IsUtf8 (w.body ++ c ∷ w.rest) = subst (λ y. IsUtf8 y) w.whole (behind_ascii c cs (quote_low c b) u) in
+        let inside : IsUtf8 (w.body ++ c ∷ w.rest) = subst (λ y. IsUtf8 y) w.whole (after_ascii c cs (quote_low c b) u) in
         let scan : bad_escape false 0 (c ∷ (w.body ++ c ∷ [])) ≡ bad_escape false 1 (w.body ++ c ∷ []) = rw (quote_plain c b) refl in
         quoted (c ∷ (w.body ++ c ∷ [])) w.body [] c 1 front.0 b (omega (arith, size, w.long)) (line_body c c w.body (no_lines (c ∷ cs) (c ∷ (w.body ++ c ∷ [])) w.rest cut k)) (up_to_ascii w.body c w.rest (quote_low c b) inside) scan w.closed (λ _. refl)
 

@@ -133,7 +133,8 @@ kind_of (c ∷ cs) =
 abbrev pub is_integer : List ℕ → Bool
 is_integer number = bytes_eq number (codes "0") || (is_decimal number || is_hexadecimal number)
 
--- what is wrong with a piece that is not a token: a number with a point or an exponent, an integer that is too great, or anything else
+-- what is wrong with a piece that is not a token: a number with a point or an exponent, an integer that is too great,
+-- or anything else
 abbrev pub fault_of : List ℕ → Code
 fault_of piece = if is_float piece then FloatLiteral else (if is_integer piece then IntTooLarge else Syntax)
 

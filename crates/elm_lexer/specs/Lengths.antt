@@ -1,4 +1,5 @@
--- How many bytes the first piece of a text takes, by the text's characters, as the program finds it. No clause of a public function cites this: that it is the longest piece is proved.
+-- How many bytes the first piece of a text takes, by the text's characters, as the program finds it. No clause of a
+-- public function cites this: that it is the longest piece is proved.
 use Rattle.std.specs.Prelude.{ℕ, ◌+◌, length, Bool, false, ◌&&◌, ◌||◌, if◌then◌else◌, ◌==◌, List, [], ◌∷◌, Option, Some}
 use Rattle.std.specs.Prelude.{None}
 use Rattle.std.specs.Char.{encode_utf8}

@@ -1,4 +1,5 @@
--- Texts and characters between quotes. A text is its bytes here: a byte of a longer character is none of those that are looked for.
+-- Texts and characters between quotes. A text is its bytes here: a byte of a longer character is none of those that are
+-- looked for.
 use Rattle.std.specs.Prelude.{ℕ, ◌+◌, ◌-◌, ◌*◌, ◌≤◌, Bool, true, false, not, ◌&&◌, ◌||◌, if◌then◌else◌, ◌==◌, nat_le}
 use Rattle.std.specs.Prelude.{nat_lt, List, [], ◌∷◌, ◌++◌, length, take, drop, codes, Option, Some, None}
 use Rattle.std.specs.Str.{IsUtf8, chars}
@@ -28,8 +29,8 @@ escapes escaped c = not escaped && c == 92
 abbrev pub closes : ℕ → Bool → ℕ → Bool
 closes quote escaped c = not escaped && c == quote
 
--- The length of a literal of one line, of which n bytes stand before the text; escaped: a backslash escapes the first byte. It
--- ends with the quote, and a line feed (10) does not stand in it.
+-- The length of a literal of one line, of which n bytes stand before the text; escaped: a backslash escapes the first
+-- byte. It ends with the quote, and a line feed (10) does not stand in it.
 abbrev pub line_length : ℕ → Bool → ℕ → List ℕ → Option ℕ
 line_length quote escaped n [] = None
 line_length quote escaped n (c ∷ cs) =
@@ -47,7 +48,8 @@ abbrev pub literal_length : List ℕ → Option ℕ
 literal_length [] = None
 literal_length (c ∷ cs) = if begins_lines (c ∷ cs) then lines_length false 3 (drop 2 cs) else line_length c false 1 cs
 
--- hexadecimal digits and } (125) follow, so that with n digits before, which spell v, they are 4 to 6 and spell at most 10FFFF
+-- hexadecimal digits and } (125) follow, so that with n digits before, which spell v, they are 4 to 6 and spell at most
+-- 10FFFF
 abbrev pub ends_code : ℕ → ℕ → List ℕ → Bool
 ends_code n v [] = false
 ends_code n v (c ∷ cs) =

@@ -1,5 +1,6 @@
--- Pieces: the shapes of what a text is cut into. A piece is a list of characters taken alone; a text is the bytes of characters.
--- The characters of names are those of names in paths: `_`, ASCII letters and digits, and past ASCII those of XID_Continue.
+-- Pieces: the shapes of what a text is cut into. A piece is a list of characters taken alone; a text is the bytes of
+-- characters. The characters of names are those of names in paths: `_`, ASCII letters and digits, and past ASCII those
+-- of XID_Continue.
 use Rattle.std.specs.Prelude.{◌≡◌, ℕ, ◌≤◌, Bool, false, ◌&&◌, List, [], ◌∷◌, ◌++◌, length, IsTrue}
 use Rattle.std.specs.List.{list_all}
 use Rattle.std.specs.Str.{IsUtf8, chars}

@@ -8,7 +8,7 @@ use crate::error::{TextError, TextFault};
 use crate::first::First;
 use crate::firsts::first_in;
 use crate::gap::{after_gap, begins_gap};
-use crate::place::behind;
+use crate::place::place_after;
 use crate::token::Token;
 use elm_base::fault::Code;
 use elm_base::position::Pos;
@@ -25,7 +25,7 @@ fn fault_at(place: Pos, text: &[u8], code: Code, before: usize, detail: usize) -
 {
     TextFault {
         code,
-        place: behind(place, &text[..before]),
+        place: place_after(place, &text[..before]),
         detail: &text[..detail],
     }
 }
@@ -57,7 +57,7 @@ pub fn tokens<'a>(alloc: Global, text: &'a [u8]) -> Result<Vec<Token<'a>>, TextE
                 return Err(TextError::Fault(fault_at(place, bytes, Code::Unclosed, 0, 0)));
             };
             let length = bytes.len() - after.len();
-            place = behind(place, &bytes[..length]);
+            place = place_after(place, &bytes[..length]);
             rest = &rest[length..];
             touched = true;
         } else {
@@ -74,7 +74,7 @@ pub fn tokens<'a>(alloc: Global, text: &'a [u8]) -> Result<Vec<Token<'a>>, TextE
                         space_before: touched,
                         space_after: begins_gap(after),
                     })?;
-                    place = behind(place, piece);
+                    place = place_after(place, piece);
                     rest = &rest[length..];
                     touched = false;
                 }

@@ -20,6 +20,6 @@ pub mod units;
 
 pub use error::{TextError, TextFault};
 pub use lexer::tokens;
-pub use place::behind;
+pub use place::place_after;
 pub use token::{Kind, Token};
 pub use units::literal_units;

@@ -87,7 +87,8 @@ abbrev pub linked : List (List ℕ × ModuleResult) → Option Project
 linked [] = None
 linked (r ∷ rs) = good_entry r.1 (linked rs) rs
 
--- if no module is refused, the text is that of the entry's JavaScript; otherwise the lines are the faults of all modules
+-- if no module is refused, the text is that of the entry's JavaScript; otherwise the lines are the faults of all
+-- modules
 abbrev pub IsJoined : Option Project → List (List ℕ × ModuleResult) → Outcome → Type 0
 IsJoined (Some p) results outcome = (bytes : List ℕ) × JsText (Emit p) bytes × (outcome ≡ Text bytes)
 IsJoined None results outcome = outcome ≡ Faulty (fault_lines results)

@@ -3,7 +3,7 @@ use Rattle.std.proofs.Common.{◌≡◌, ℕ, ◌≤◌, ◌<◌, List, [], ◌�
 use Rattle.std.proofs.Common.{arith}
 use Rattle.elm_base.specs.declared.fault.Code.{Code}
 use Rattle.elm_base.specs.declared.fault.Code.TheVariants.{Syntax}
-use Rattle.elm_lexer.specs.Tokens.{Token, Tokens, Fault, HasFault, first_place, behind}
+use Rattle.elm_lexer.specs.Tokens.{Token, Tokens, Fault, HasFault, first_place, place_after}
 use Rattle.elm_lexer.proofs.Same.{same_tokens, same_faults, fault_alone}
 use Rattle.elm_tree.specs.Tree as tree
 use Rattle.parse_machine.specs.declared.table.Row.{Row}
@@ -101,9 +101,9 @@ front_law rows e c = record {
 -- ---- texts
 
 module_fault_alike : (text : List ℕ) (tokens : List Token) (f g : Fault) →
-    ModuleFault tokens (behind first_place text) f → ModuleFault tokens (behind first_place text) g → f ≡ g
+    ModuleFault tokens (place_after first_place text) f → ModuleFault tokens (place_after first_place text) g → f ≡ g
 module_fault_alike text tokens f g h i =
-    h.2 ∙ ap (reported tokens (behind first_place text)) (fault_alike tokens table.Module 1 (classed tokens) h.0 i.0 h.1 i.1)
+    h.2 ∙ ap (reported tokens (place_after first_place text)) (fault_alike tokens table.Module 1 (classed tokens) h.0 i.0 h.1 i.1)
     ∙ sym i.2
 
 pub text_fault_alike : (text : List ℕ) (f g : Fault) → HasTextFault text f → HasTextFault text g → f ≡ g
@@ -112,13 +112,13 @@ text_fault_alike text f g (of_text h) (of_tokens {tokens = us} t i) = absurd (fa
 text_fault_alike text f g (of_tokens {tokens = ts} t h) (of_text i) = absurd (fault_alone text g ts i t)
 text_fault_alike text f g (of_tokens {tokens = ts} t h) (of_tokens {tokens = us} u i) =
     module_fault_alike text ts f g h
-    (subst (λ z. ModuleFault z (behind first_place text) g) (same_tokens text us ts u t) i)
+    (subst (λ z. ModuleFault z (place_after first_place text) g) (same_tokens text us ts u t) i)
 
 pub text_apart : (text : List ℕ) (ts : List Token) (m : tree.Module) (f : Fault) → IsText text ts m →
     HasTextFault text f → ⊥
 text_apart text ts m f h (of_text i) = fault_alone text f ts i h.0
 text_apart text ts m f h (of_tokens {tokens = us} u i) =
-    let k = subst (λ z. ModuleFault z (behind first_place text) f) (same_tokens text us ts u h.0) i in
+    let k = subst (λ z. ModuleFault z (place_after first_place text) f) (same_tokens text us ts u h.0) i in
     apart ts table.Module 1 (One item.Module) m (classed ts) k.0 h.1 k.1
 
 pub text_law : (rows : List Row) → planned elm rows ≡ true → length rows ≡ nonterminals → OneOrOtherText

@@ -1,6 +1,6 @@
 -- What the readers answer: the tree, and what follows it; or the fault that is reported.
 use Rattle.std.specs.Prelude.{◌≡◌, ℕ, ◌-◌, List, length, drop, ◌⊎◌}
-use Rattle.elm_lexer.specs.Tokens.{Token, Tokens, Place, Fault, HasFault, first_place, behind}
+use Rattle.elm_lexer.specs.Tokens.{Token, Tokens, Place, Fault, HasFault, first_place, place_after}
 use Rattle.elm_tree.specs.Tree as tree
 use Rattle.parse_machine.specs.declared.table.Token as machine
 use Rattle.elm_grammar.specs.Classes.{classed}
@@ -43,5 +43,5 @@ IsText text tokens m = Tokens text tokens × ReadsModule tokens m
 -- the text has no tokens and this fault, or its tokens have it
 pub data HasTextFault (text : List ℕ) (f : Fault) : Type 0 where
   of_text : HasFault text f → HasTextFault text f
-  of_tokens : {tokens : List Token} → Tokens text tokens → ModuleFault tokens (behind first_place text) f →
+  of_tokens : {tokens : List Token} → Tokens text tokens → ModuleFault tokens (place_after first_place text) f →
       HasTextFault text f

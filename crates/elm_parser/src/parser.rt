@@ -125,8 +125,8 @@ pub fn parse_pattern<'t, 'a>(
     Ok((built, &tokens[tokens.len() - rest..]))
 }
 
-/// The expression that the longest front of the tokens that begins one spells, and the tokens after it. (Elm guide: core
-/// language.)
+/// The expression that the longest front of the tokens that begins one spells, and the tokens after it. (Elm guide:
+/// core language.)
 ///
 /// Each of its tokens stands right of `column`. `tokens` and `end` are as for `parse_module`, and so is the error.
 pub fn parse_expr<'t, 'a>(

@@ -38,8 +38,8 @@ fn or_syntax(finding: Option<Finding>, index: usize) -> Finding
     }
 }
 
-/// The steps of the one derivation of all of the tokens from the nonterminal `start` under the column `column`, in which
-/// no fault stands; or the fault.
+/// The steps of the one derivation of all of the tokens from the nonterminal `start` under the column `column`, in
+/// which no fault stands; or the fault.
 pub fn whole<'a>(
     alloc: Global,
     tokens: &[Token<'a>],

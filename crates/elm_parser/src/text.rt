@@ -9,7 +9,7 @@ use crate::parser::parse_module;
 use elm_base::position::Pos;
 use elm_lexer::error::TextError;
 use elm_lexer::token::Token;
-use elm_lexer::{behind, tokens};
+use elm_lexer::{place_after, tokens};
 use elm_tree::tree::Module;
 use std::alloc::Global;
 
@@ -31,7 +31,7 @@ pub fn parse_text<'a>(alloc: Global, text: &'a [u8]) -> Result<Parsed<'a>, TextE
     ensures fault { IfErr result (λ e. IfFault e (HasTextFault text.entry.now)) }
 {
     let tokens = tokens(alloc, text)?;
-    let end = behind(Pos { row: 1, column: 1 }, text);
+    let end = place_after(Pos { row: 1, column: 1 }, text);
     match parse_module(alloc, &tokens, end) {
         Ok(module) => Ok(Parsed { tokens, module }),
         Err(error) => Err(error),

@@ -130,7 +130,8 @@ asks_is Comparable h n = refl
 asks_is Appendable h n = refl
 asks_is CompAppend h n = refl
 
--- ---- two demands at once, by what holds of a number (x), a plain comparable type (y), a text (z), a list (m) and a tuple (u)
+-- ---- two demands at once, by what holds of a number (x), a plain comparable type (y), a text (z), a list (m) and a
+-- tuple (u)
 
 on_number : Bool → Demand
 on_number x = cond x Always Never

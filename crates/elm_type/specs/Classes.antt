@@ -140,7 +140,8 @@ head_of (Record NoField (Over r)) = None
 head_of (Record NoField Closed) = Some RecordHead
 head_of (Record (MoreField k t fs) end) = Some RecordHead
 
--- a type that meets the class has a head that the class allows, and each head that a class allows is that of such a type
+-- a type that meets the class has a head that the class allows, and each head that a class allows is that of such a
+-- type
 pub record AllowsSome : Type 0 where
   pub allowed : (c : Class) (t : Ground) (h : TypeHead) → head_of t ≡ Some h → meets c t ≡ true → allows c h ≡ true
   pub some : (c : Class) (h : TypeHead) → allows c h ≡ true → (t : Ground) × (head_of t ≡ Some h) × (meets c t ≡ true)

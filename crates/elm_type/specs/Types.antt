@@ -1,7 +1,8 @@
 -- Types, as plain data, over variables of any kind. (Elm guide: types, records.) Names are lists of UTF-16 units.
 --
 -- The variables are: of ground types the rigid constants; of the types that the checker speaks of the places of a tree,
--- and rigid constants; of a scheme numbers, and rigid constants. One substitution leads from each of these to each other.
+-- and rigid constants; of a scheme numbers, and rigid constants. One substitution leads from each of these to each
+-- other.
 use Rattle.std.specs.Prelude.{ℕ, suc, ◌+◌, List, [], ◌∷◌, ◌++◌, codes, unwrap_or, slice_get}
 use Rattle.elm_type.specs.declared.class.Class.{Class}
 use Rattle.elm_type.specs.declared.class.Class.TheVariants.{Any}
@@ -131,8 +132,8 @@ abbrev mutual
 
 -- Types over variables and constants.
 
--- A rigid constant: a variable of the annotation that stands at a place of the tree. It has the class that its name says,
--- and lacks the fields that the annotation writes beside it. A constant that lacks none stands for no record.
+-- A rigid constant: a variable of the annotation that stands at a place of the tree. It has the class that its name
+-- says, and lacks the fields that the annotation writes beside it. A constant that lacks none stands for no record.
 pub record Rigid : Type 0 where
   pub place : List ℕ
   pub name : Name

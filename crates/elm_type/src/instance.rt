@@ -37,8 +37,8 @@ fn shifted_nodes(alloc: Global, nodes: &[Node], first: u32) -> Result<Vec<Node>,
     Ok(others)
 }
 
-/// The type of the scheme `scheme` with the variable `first + i` in the place of each variable `i`. Rigid constants stay.
-/// It asks that each of these numbers fits 32 bits. The error means that memory ran out.
+/// The type of the scheme `scheme` with the variable `first + i` in the place of each variable `i`. Rigid constants
+/// stay. It asks that each of these numbers fits 32 bits. The error means that memory ran out.
 pub fn instantiate(alloc: Global, scheme: &Scheme, first: u32) -> Result<Ty, AllocError>
     requires { AllFit first (variables (type_view scheme.now.ty)) }
     ensures { IfOk result (λ ty. type_view ty ≡ instantiate (scheme_view scheme.now) first) }

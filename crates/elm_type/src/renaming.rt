@@ -119,8 +119,8 @@ fn kinds_of(alloc: Global, kinds: &[Kind], order: &[u32]) -> Result<Vec<Kind>, A
     Ok(others)
 }
 
-/// The scheme with its variables numbered from 0 on, in order of appearance, each with its kind. The variable of a record
-/// appears before the record's fields. The error means that memory ran out.
+/// The scheme with its variables numbered from 0 on, in order of appearance, each with its kind. The variable of a
+/// record appears before the record's fields. The error means that memory ran out.
 pub fn rename(alloc: Global, scheme: &Scheme) -> Result<Scheme, AllocError>
     ensures { IfOk result (λ renamed. scheme_view renamed ≡ rename (scheme_view scheme.now)) }
 {

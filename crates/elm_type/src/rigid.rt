@@ -31,7 +31,12 @@ impl Model for Rigid {
 
     ghost Value = { types.Rigid };
 
-    ghost view = { λ r. record { place = r.described.value.place.items; name = r.described.value.name; class = r.described.value.class; lacks = r.described.value.lacks.items } };
+    ghost view = { λ r. record {
+      place = r.described.value.place.items;
+      name = r.described.value.name;
+      class = r.described.value.class;
+      lacks = r.described.value.lacks.items;
+    } };
 }
 
 impl Rigid {

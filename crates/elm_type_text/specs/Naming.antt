@@ -1,6 +1,6 @@
--- Names of type variables. In order of appearance each variable takes the first name of its class that no rigid constant
--- of the type has, and no variable before it: a to z, then a1 to z1 and so on; those of a class the name of the class,
--- then that name with 1, 2 and so on.
+-- Names of type variables. In order of appearance each variable takes the first name of its class that no rigid
+-- constant of the type has, and no variable before it: a to z, then a1 to z1 and so on; those of a class the name of
+-- the class, then that name with 1, 2 and so on.
 use Rattle.std.specs.Prelude.{ℕ, zero, suc, ◌+◌, ◌/◌, ◌%◌, List, [], ◌∷◌, ◌++◌, map, length, Bool, nat_eq}
 use Rattle.std.specs.Prelude.{if◌then◌else◌, codes}
 use Rattle.std.specs.List.{list_any}

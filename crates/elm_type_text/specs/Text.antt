@@ -1,5 +1,5 @@
--- The text of a type, as Elm writes types: `Maybe (List a)`, `a -> b`, `( a, b )`, `{ x : Int }`, `{ a | x : Int }`. A type
--- of a module that the language brings has its name alone, another type has its module before it.
+-- The text of a type, as Elm writes types: `Maybe (List a)`, `a -> b`, `( a, b )`, `{ x : Int }`, `{ a | x : Int }`. A
+-- type of a module that the language brings has its name alone, another type has its module before it.
 use Rattle.std.specs.Prelude.{ℕ, List, [], ◌++◌, Bool, ◌||◌, slice_get, unwrap_or, if◌then◌else◌, codes}
 use Rattle.std.specs.Str.{bytes_eq, encode_utf8_all}
 use Rattle.std.specs.Char.Utf16.{utf16_lossy_chars}

@@ -11,8 +11,8 @@ use elm_type::scheme::Scheme;
 use std::alloc::{AllocError, Global};
 
 /// The text of the type of a scheme, in UTF-8, as Elm writes types. In order of appearance each variable has the first
-/// name of its class that no rigid constant and no variable before it has: a to z, a1 and so on, or the name of the class,
-/// then that name with 1, 2 and so on. The error means that memory ran out.
+/// name of its class that no rigid constant and no variable before it has: a to z, a1 and so on, or the name of the
+/// class, then that name with 1, 2 and so on. The error means that memory ran out.
 pub fn type_text(alloc: Global, scheme: &Scheme) -> Result<Vec<u8>, AllocError>
     ensures { IfOk result (λ text. text.items ≡ utf8 (type_text (scheme_view scheme.now))) }
 {

@@ -354,7 +354,8 @@ pub fn put_constructors(
 ) -> Result<(), AllocError>
     ensures { OnOk result ((tokens : List Token) →
         columns tokens stacks.new
-        ≡ push (Many item.Constructor) (held (constructor_view tokens) constructors.items) (columns tokens stacks.old)) }
+        ≡ push (Many item.Constructor) (held (constructor_view tokens) constructors.items)
+        (columns tokens stacks.old)) }
 {
     put(&mut stacks.constructor_lists, constructors)
 }

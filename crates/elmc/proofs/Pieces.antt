@@ -14,9 +14,9 @@ take_front (suc n) [] b = (0, refl)
 take_front (suc n) (c ∷ a) b = let r = take_front n a b in (suc r.0, ap (λ x. c ∷ x) r.1)
 
 -- and so is the first with a part of the second
-take_behind : (a : List ℕ) (n : ℕ) (b : List ℕ) → (m : ℕ) × (take m (a ++ b) ≡ a ++ take n b)
-take_behind [] n b = (n, refl)
-take_behind (c ∷ a) n b = let r = take_behind a n b in (suc r.0, ap (λ x. c ∷ x) r.1)
+take_after : (a : List ℕ) (n : ℕ) (b : List ℕ) → (m : ℕ) × (take m (a ++ b) ≡ a ++ take n b)
+take_after [] n b = (n, refl)
+take_after (c ∷ a) n b = let r = take_after a n b in (suc r.0, ap (λ x. c ∷ x) r.1)
 
 take_all : (a : List ℕ) → take (length a) a ≡ a
 take_all [] = refl
@@ -42,7 +42,7 @@ front old new a b h = let r = take_front h.0 a b in (r.0, h.1 ∙ sym (ap (λ x.
 pub behind : (old mid new : Option (List ℕ)) (a b : List ℕ) → mid ≡ longer old a → LongerByPart mid b new →
     LongerByPart old (a ++ b) new
 behind old mid new a b e h =
-    let r = take_behind a h.0 b in
+    let r = take_after a h.0 b in
     (r.0, h.1 ∙ ap (λ x. longer x (take h.0 b)) e ∙ longer_twice old a (take h.0 b) ∙ sym (ap (λ x. longer old x) r.1))
 
 pub whole : (old mid new : Option (List ℕ)) (a b : List ℕ) → mid ≡ longer old a → new ≡ longer mid b →

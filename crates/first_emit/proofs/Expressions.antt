@@ -3,7 +3,7 @@ use Rattle.std.proofs.Common.{◌≡◌, ℕ, zero, suc, ◌+◌, ◌≤◌, pos
 use Rattle.std.specs.Prelude.{codes, ◌&&◌}
 use Rattle.runs.specs.Ends.{End, Val, Crashed, OutOfFuel, Unsafe, Stuck, then_do, Metered, MVal, MOutOfFuel, and_then, with_budget}
 use Rattle.runs.specs.Pay.{Run, Spends, Follows, gives, crashes, starves, unclaimed_unsafe, unclaimed_stuck}
-use Rattle.runs.proofs.Spends.{spends_none, spends_on, spends_then, spends_same, spends_call, behind, follows_after, follows_then, follows_behind}
+use Rattle.runs.proofs.Spends.{spends_none, spends_on, spends_then, spends_same, spends_call, behind, follows_after, follows_then, follows_call}
 use Rattle.first_canon.specs.Tree.{Ref, Pattern, Add, Expr, Int, Var, Lambda, Apply, Binary, UnitOf, Pair, Triple, Record, Exprs, NoExpr, MoreExpr, Fields, NoField, MoreField, IntPayload, UnitPayload}
 use Rattle.first_canon.specs.Values.{Value, Env, bind_pattern}
 use Rattle.first_canon.specs.Eval.{eval_with, apply_with, fields_with, body_at, call_at, pair_of, triple_of}
@@ -196,7 +196,7 @@ module _ (outs : List (List ℕ)) where
       out (suc b) (suc m) le ln = absurd (omega arith)
   bodies_follow (suc n) e d p scope sc sp a w env jenv ra re =
       let inner = behind_parameter d p in
-      follows_behind (returned n (calls_follow n (bodies_follow n)) (js_parameter d p) (emit inner e) (now (emit inner e)) w jenv (returns_now e inner)
+      follows_call (returned n (calls_follow n (bodies_follow n)) (js_parameter d p) (emit inner e) (now (emit inner e)) w jenv (returns_now e inner)
       (runs n (calls_follow n (bodies_follow n)) e inner (with_parameter p scope) sc sp (bind_pattern p a env) (JBind (js_parameter d p) w jenv) (for_parameter outs d p ra re)))
 
   pub called : (n : ℕ) → CallsFollow n

@@ -1,5 +1,5 @@
--- The order of modules by their imports, and the ring where there is none. Modules are numbered in ascending order of their names, by
--- bytes: the list at place i has the modules that module i imports. (Elm guide, modules.)
+-- The order of modules by their imports, and the ring where there is none. Modules are numbered in ascending order of
+-- their names, by bytes: the list at place i has the modules that module i imports. (Elm guide, modules.)
 use Rattle.std.specs.Prelude.{ℕ, ◌<◌, ◌≤◌, List, [], ◌∷◌, ◌++◌, length}
 use Rattle.std.specs.List.{Contains}
 use Rattle.decl_groups.specs.Groups.{Uses, Reaches, IsGroup, position_of}
@@ -24,7 +24,8 @@ pub data IsOrder (uses : List (List ℕ)) : List ℕ → List ℕ → Type 0 whe
 abbrev pub ReachesItself : List (List ℕ) → ℕ → Type 0
 ReachesItself uses m = (j : ℕ) × Uses uses m j × Reaches uses j m
 
--- The ring of the least module that reaches itself: in ascending order, all modules that it reaches and that reach it. It is the first of them
+-- The ring of the least module that reaches itself: in ascending order, all modules that it reaches and that reach it.
+-- It is the first of them
 pub record IsRing (uses : List (List ℕ)) (ring : List ℕ) : Type 0 where
   pub is_group : IsGroup uses ring
   pub reaches_itself : ReachesItself uses (position_of ring)

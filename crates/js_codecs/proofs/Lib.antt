@@ -4,7 +4,7 @@ pub mod DecodeLaws
 pub mod EncodeLaws
 -- the first of the parts, and whether there are others
 pub mod PartLaws
--- loops that make one more of what a list comes to
+-- loops whose turns each add one to the meaning of a list
 pub mod LoopLaws
 -- fields that are changed where they stand, or put after the others
 pub mod ChangeLaws

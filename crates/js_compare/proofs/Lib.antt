@@ -1,8 +1,8 @@
 -- fields that are put in the order of their names
 pub mod Sorting
--- what an order comes to, part by part
+-- the result of an order, part by part
 pub mod Orders
--- what a comparison comes to, part by part
+-- the result of a comparison, part by part
 pub mod Comparing
 -- tasks that are added and taken
 pub mod Tasks

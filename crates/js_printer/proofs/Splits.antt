@@ -81,7 +81,7 @@ weight-task (task.Task.Program p) = let h = weight-positive p in omega arith
 weight-task (task.Task.Main p) = let h = weight-positive p in omega arith
 weight-task (task.Task.Outs p) = let h = weight-positive p in omega arith
 
--- a task comes to what is written and parts that weigh less
+-- a task is split into what is written and parts that weigh less
 pub record IsSplit (ns : List Node) (t : Task) (written : List ℕ) (parts : List Task) : Type 0 where
   pub whole : task_text ns t ≡ written ++ parts_text ns parts
   pub lighter : tasks_weight parts < task_weight t

@@ -8,7 +8,7 @@ use Rattle.js_printer.specs.Whole.{tree_text}
 use Rattle.js_printer.specs.Tasks.{task_text, left_text, tasks_weight, IsInside, AreInside, IsStep}
 use Rattle.js_printer.proofs.Splits.{left_text-append, tasks_weight-append}
 
--- what is written and what is left come to the whole
+-- what is written, followed by what is left, is the whole
 pub record Comes (ns : List Node) (whole text : List ℕ) (tasks : List Task) : Type 0 where
   pub text_is : text ++ left_text ns tasks ≡ whole
   pub inside : AreInside (length ns) tasks

@@ -134,8 +134,8 @@ abbrev pub AreInside : ℕ → List Task → Type 0
 AreInside n [] = Unit
 AreInside n (t ∷ ts) = IsInside n t × AreInside n ts
 
--- A step: what is written and what is left come to the text from before and that of the task, with what was left; less is left; each place is
--- one of the trees.
+-- A step: what is written, followed by what is left, is the text from before, that of the task and what was left; less
+-- is left; each place is one of the trees.
 pub record IsStep (ns : List Node) (t : Task) (text : List ℕ) (tasks : List Task) (text_then : List ℕ) (tasks_then : List Task) : Type 0 where
   pub whole : text_then ++ left_text ns tasks_then ≡ text ++ (task_text ns t ++ left_text ns tasks)
   pub lighter : tasks_weight tasks_then < task_weight t + tasks_weight tasks

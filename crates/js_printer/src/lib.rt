@@ -1,4 +1,5 @@
-//! The text of trees, printed into one buffer. What is still to be written stands on a stack of tasks, so that no tree is too deep.
+//! The text of trees, printed into one buffer. What is still to be written stands on a stack of tasks, so that no tree
+//! is too deep.
 #![tactic(auto)]
 
 ghost use Rattle.std.specs.Prelude.{◌≡◌, ◌≤◌, length, OnOk, IfOk};

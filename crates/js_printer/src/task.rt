@@ -1,4 +1,5 @@
-//! Pieces of a text that are still to be written. A step of a piece writes its front and leaves its parts, which come next.
+//! Pieces of a text that are still to be written. A step of a piece writes its front and leaves its parts, which come
+//! next.
 
 ghost use Rattle.std.specs.Prelude.{◌≡◌, ◌++◌, reverse, OnOk};
 

@@ -6,7 +6,7 @@ use Rattle.elm_base.specs.declared.position.Pos.{Pos}
 use Rattle.js_tree.specs.Tree.{Program}
 use Rattle.js_tree.specs.Text.{JsText}
 use Rattle.js_tree.specs.Subset.{is_program_spelled}
-use Rattle.js_tree.specs.Faults.{Place, place_behind}
+use Rattle.js_tree.specs.Faults.{Place, place_after}
 use Rattle.js_tree.specs.Postorder.{Tree, Expression, ItemsOf, MembersOf, StatementsOf, BlockOf, LinesOf, ProgramOf}
 use Rattle.js_tree.specs.Automaton.{State, Finished, Dead, step, run, start, is_live}
 use Rattle.js_tree.proofs.CompleteTree.{read_back}
@@ -31,7 +31,7 @@ dead_is_not_finished p e = cc
 
 -- where a byte leads nowhere
 pub stops_inside : (front : List ℕ) (c : ℕ) (behind : List ℕ) (p : Pos) → is_live (run start front) ≡ true → step (run start front) c ≡ Dead
-    → place_view p ≡ place_behind first_place front → IsNoText (At p) (front ++ c ∷ behind)
+    → place_view p ≡ place_after first_place front → IsNoText (At p) (front ++ c ∷ behind)
 stops_inside front c behind p l d e = (none, fault_inside front c behind (place_view p) l d (sym e))
   where
     none : (program : Program) → is_program_spelled program ≡ true → JsText program (front ++ c ∷ behind) → ⊥
@@ -43,7 +43,7 @@ finished_is s p n e = let f : is_finished (Finished p) ≡ false = subst (λ t. 
 
 -- where the bytes end before a text does
 pub stops_at_end : (bytes : List ℕ) (p : Pos) → is_live (run start bytes) ≡ true → is_finished (run start bytes) ≡ false
-    → place_view p ≡ place_behind first_place bytes → IsNoText (At p) bytes
+    → place_view p ≡ place_after first_place bytes → IsNoText (At p) bytes
 stops_at_end bytes p l n e = (none, fault_at_end bytes (place_view p) l (sym e))
   where
     none : (program : Program) → is_program_spelled program ≡ true → JsText program bytes → ⊥
@@ -72,15 +72,15 @@ not_live s h = by_cases (live_or_dead s)
     by_cases (inr d) = d
 
 -- the states of a reader before a byte and after it, where that leads nowhere
-pub dead_behind : (bytes : List ℕ) (i d : ℕ) (s t : State) (p : Pos) → i < length bytes → s ≡ run start (take i bytes) → is_live s ≡ true → t ≡ step s (get_or bytes i d) → is_live t ≡ false
-    → place_view p ≡ place_behind first_place (take i bytes) → IsNoText (At p) bytes
-dead_behind bytes i d s t p h e l f n q =
+pub dead_after : (bytes : List ℕ) (i d : ℕ) (s t : State) (p : Pos) → i < length bytes → s ≡ run start (take i bytes) → is_live s ≡ true → t ≡ step s (get_or bytes i d) → is_live t ≡ false
+    → place_view p ≡ place_after first_place (take i bytes) → IsNoText (At p) bytes
+dead_after bytes i d s t p h e l f n q =
     subst (λ (bs : List ℕ). IsNoText (At p) bs) (split_at bytes i d h)
     (stops_inside (take i bytes) (get_or bytes i d) (drop (i + 1) bytes) p (ap is_live (sym e) ∙ l) (ap (λ u. step u (get_or bytes i d)) (sym e) ∙ (sym f ∙ not_live t n)) q)
 
 -- where it leads on
-pub live_behind : (bytes : List ℕ) (i d : ℕ) (s t : State) → i < length bytes → s ≡ run start (take i bytes) → t ≡ step s (get_or bytes i d) → t ≡ run start (take (i + 1) bytes)
-live_behind bytes i d s t h e f = f ∙ (ap (λ u. step u (get_or bytes i d)) e ∙ sym (next_run bytes i d h))
+pub live_after : (bytes : List ℕ) (i d : ℕ) (s t : State) → i < length bytes → s ≡ run start (take i bytes) → t ≡ step s (get_or bytes i d) → t ≡ run start (take (i + 1) bytes)
+live_after bytes i d s t h e f = f ∙ (ap (λ u. step u (get_or bytes i d)) e ∙ sym (next_run bytes i d h))
 
 -- at the end of the bytes
 pub at_end : (bytes : List ℕ) (i : ℕ) (s : State) → length bytes ≤ i → s ≡ run start (take i bytes) → s ≡ run start bytes

@@ -4,7 +4,7 @@ use Rattle.elm_base.specs.declared.position.Pos.{Pos}
 use Rattle.js_tree.specs.Tree.{Program}
 use Rattle.js_tree.specs.Text.{JsText}
 use Rattle.js_tree.specs.Subset.{in_subset, is_program_bound, is_program_spelled}
-use Rattle.js_tree.specs.Faults.{place_behind}
+use Rattle.js_tree.specs.Faults.{place_after}
 use Rattle.js_tree.specs.Postorder.{Tree, ProgramOf}
 use Rattle.js_tree.specs.Automaton.{is_live}
 use Rattle.js_tree.proofs.CompleteTree.{read_back}
@@ -47,7 +47,7 @@ not_both true p q = cc
 not_both false p q = cc
 
 -- a text with a name that is not
-pub unbound_text : (t : Tree) (bytes : List ℕ) (p : Pos) → IsTreeOf t bytes → names_bound t ≡ false → place_view p ≡ place_behind first_place bytes → IsRefused (At p) bytes
+pub unbound_text : (t : Tree) (bytes : List ℕ) (p : Pos) → IsTreeOf t bytes → names_bound t ≡ false → place_view p ≡ place_after first_place bytes → IsRefused (At p) bytes
 unbound_text t bytes p r b e = (none, fault_at_end bytes (place_view p) (ap is_live (read_back r.program bytes r.spelled r.text)) (sym e))
   where
     none : (program : Program) → in_subset program ≡ true → JsText program bytes → ⊥

@@ -1,4 +1,4 @@
--- What reading bytes comes to.
+-- The result of reading bytes.
 use Rattle.std.specs.Prelude.{◌≡◌, ℕ, List, true}
 use Rattle.elm_base.specs.declared.position.Pos.{Pos}
 use Rattle.js_tree.specs.Tree.{Program}

@@ -1,4 +1,4 @@
--- What a reader has come to, as plain data.
+-- The state of a reader, as plain data.
 use Rattle.std.specs.Prelude.{ℕ, List, [], ◌∷◌, ◌++◌, reverse, Option, Some, None, codes}
 use Rattle.js_tree.specs.declared.runtime.TheConstants.{TAIL}
 use Rattle.js_tree.specs.Tree.{Program}
@@ -23,8 +23,8 @@ use Rattle.js_reader.specs.NameView.{begun_of}
 abbrev pub front_of : List ℕ → List Tree → Front
 front_of m ts = record { lines = lines (top (below (below ts))); name = m; main = expression (top (below ts)); flags = expression (top ts) }
 
--- where an expression stands, and where a block does, by the frames and the trees below it; m is the name of the entry's module. Outside of all
--- frames stands the program of `_main`.
+-- where an expression stands, and where a block does, by the frames and the trees below it; m is the name of the
+-- entry's module. Outside of all frames stands the program of `_main`.
 abbrev mutual
   pub place_of : List Frame → List ℕ → List Tree → Place
   place_of (frame.Frame.Argument ∷ fs) m ts = machine.ArgumentOf (expression (top ts)) (place_of fs m (below ts))

@@ -17,13 +17,14 @@ use js_scope::is_bound;
 use js_tree::trees::Trees;
 pub use refusal::Refusal;
 use std::alloc::Global;
-use text::{place_behind, read_text};
+use text::{place_after, read_text};
 
 /// Reads the text of a program.
 ///
-/// The bytes are those of at most one program of the subset, and that is the last of the trees. If they are those of none, the error has the
-/// place where they stop to be a text: where the longest part of them, from their start, ends that begins some text. Where they are a text
-/// whose names are not all bound, that is their end. (ECMA-262: 12.7, 12.9, 13.2 to 13.15, 14.3.1, 14.6 to 14.10, 15.3.)
+/// The bytes are those of at most one program of the subset, and that is the last of the trees. If they are those of
+/// none, the error has the place where they stop to be a text: where the longest part of them, from their start, ends
+/// that begins some text. Where they are a text whose names are not all bound, that is their end. (ECMA-262: 12.7,
+/// 12.9, 13.2 to 13.15, 14.3.1, 14.6 to 14.10, 15.3.)
 ///
 /// Time and memory grow with the number of bytes, and no text needs more of the machine's stack than another.
 pub fn read(alloc: Global, bytes: &[u8]) -> Result<Trees, Refusal>
@@ -35,5 +36,5 @@ pub fn read(alloc: Global, bytes: &[u8]) -> Result<Trees, Refusal>
     if is_bound(alloc, &trees)? {
         return Ok(trees);
     }
-    Err(Refusal::At(place_behind(bytes)))
+    Err(Refusal::At(place_after(bytes)))
 }

@@ -149,7 +149,7 @@ impl NameReader {
         ensures { OnOk result (begun_of self.new ≡ reading.name_step (begun_of self.old) byte) }
     {
         match self.phase {
-            Phase::OneDollar => self.behind_dollar(byte),
+            Phase::OneDollar => self.after_dollar(byte),
             Phase::TwoDollars => {
                 self.phase = first_number(byte);
                 Ok(())
@@ -159,13 +159,13 @@ impl NameReader {
                 Ok(())
             }
             Phase::Word => self.in_word(byte),
-            Phase::Dollar => self.behind_word(byte),
+            Phase::Dollar => self.after_word(byte),
             Phase::Digits(left, value) => self.in_digits(left, value, byte),
             Phase::NoName => Ok(()),
         }
     }
 
-    fn behind_dollar(&mut self, byte: u8) -> Result<(), AllocError>
+    fn after_dollar(&mut self, byte: u8) -> Result<(), AllocError>
         ensures { OnOk result (begun_of self.new ≡ reading.name_step reading.OneDollar byte) }
     {
         if byte == b'$' {
@@ -196,7 +196,7 @@ impl NameReader {
         Ok(())
     }
 
-    fn behind_word(&mut self, byte: u8) -> Result<(), AllocError>
+    fn after_word(&mut self, byte: u8) -> Result<(), AllocError>
         ensures { OnOk result (begun_of self.new ≡ reading.name_step
             (begun_at Dollar self.old.is_local self.old.owner.items self.old.word.items) byte) }
     {

@@ -622,7 +622,7 @@ impl Reader {
     fn at_word(&mut self, found: Option<Word>) -> Result<(), AllocError>
         ensures { OnOk result (state_of self.new ≡ found_word found
             (begun_word self.old.word.items (place_of self.old.frames self.old.entry (trees_in self.old)))
-            (λ w. machine.behind_word w (place_of self.old.frames self.old.entry (trees_in self.old)))) }
+            (λ w. machine.after_word w (place_of self.old.frames self.old.entry (trees_in self.old)))) }
     {
         let Some(word) = found else {
             self.mode = if begins_word(&self.word) {
@@ -632,12 +632,12 @@ impl Reader {
             };
             return Ok(());
         };
-        self.behind_word(word)
+        self.after_word(word)
     }
 
     /// After a word that an expression begins with.
-    fn behind_word(&mut self, word: Word) -> Result<(), AllocError>
-        ensures { OnOk result (state_of self.new ≡ machine.behind_word (word_view word)
+    fn after_word(&mut self, word: Word) -> Result<(), AllocError>
+        ensures { OnOk result (state_of self.new ≡ machine.after_word (word_view word)
             (place_of self.old.frames self.old.entry (trees_in self.old))) }
     {
         match word {
@@ -724,7 +724,7 @@ impl Reader {
             (naming_of naming self.old.frames self.old.entry (trees_in self.old)) byte) }
     {
         match name {
-            Some(name) => self.behind_name(name, byte, naming),
+            Some(name) => self.after_name(name, byte, naming),
             None => {
                 self.mode = Mode::Dead;
                 Ok(())
@@ -733,12 +733,12 @@ impl Reader {
     }
 
     /// After a name.
-    fn behind_name(&mut self, name: Name, byte: u8, naming: Naming) -> Result<(), AllocError>
-        ensures { OnOk result (state_of self.new ≡ machine.behind_name (name_view name)
+    fn after_name(&mut self, name: Name, byte: u8, naming: Naming) -> Result<(), AllocError>
+        ensures { OnOk result (state_of self.new ≡ machine.after_name (name_view name)
             (naming_of naming self.old.frames self.old.entry (trees_in self.old)) byte) }
     {
         match naming {
-            Naming::Variable => self.behind_variable(name, byte),
+            Naming::Variable => self.after_variable(name, byte),
             Naming::Const => self.named(name, byte, Naming::Const),
             Naming::Let => self.named(name, byte, Naming::Let),
             Naming::Assign => self.named(name, byte, Naming::Assign),
@@ -769,7 +769,7 @@ impl Reader {
     }
 
     /// After a name that is an expression.
-    fn behind_variable(&mut self, name: Name, byte: u8) -> Result<(), AllocError>
+    fn after_variable(&mut self, name: Name, byte: u8) -> Result<(), AllocError>
         ensures { OnOk result (state_of self.new ≡ machine.have (JVar (name_view name))
             (place_of self.old.frames self.old.entry (trees_in self.old)) byte) }
     {
@@ -787,7 +787,7 @@ impl Reader {
                 self.mode = Mode::Dead;
                 return Ok(());
             }
-            let more = digit_behind(number, byte)?;
+            let more = digit_after(number, byte)?;
             self.mode = if is_exact(more) {
                 Mode::Int(more)
             } else {
@@ -830,7 +830,7 @@ impl Reader {
             (place_of self.old.frames self.old.entry (trees_in self.old)) byte) }
     {
         if is_digit(byte) {
-            let more = digit_behind(number, byte)?;
+            let more = digit_after(number, byte)?;
             self.negative_at(more);
             return Ok(());
         }
@@ -850,7 +850,7 @@ impl Reader {
             (text_of text self.old.frames self.old.entry (trees_in self.old) (outs_in self.old)) byte) }
     {
         match byte {
-            b'"' => self.behind_text(text),
+            b'"' => self.after_text(text),
             b'\\' => {
                 self.mode = Mode::Escape(text);
                 Ok(())
@@ -918,8 +918,8 @@ impl Reader {
     }
 
     /// After the closing quote of a text.
-    fn behind_text(&mut self, text: Text) -> Result<(), AllocError>
-        ensures { OnOk result (state_of self.new ≡ machine.behind_text self.old.units.items
+    fn after_text(&mut self, text: Text) -> Result<(), AllocError>
+        ensures { OnOk result (state_of self.new ≡ machine.after_text self.old.units.items
             (text_of text self.old.frames self.old.entry (trees_in self.old) (outs_in self.old))) }
     {
         let units = Units::from_vec(Vec::from_slice(self.alloc, &self.units)?);
@@ -1320,7 +1320,7 @@ impl Reader {
 }
 
 /// The number that decimal digits are with one more.
-fn digit_behind(number: u64, byte: u8) -> Result<u64, AllocError>
+fn digit_after(number: u64, byte: u8) -> Result<u64, AllocError>
     requires { is_digit byte ≡ true }
     ensures { IfOk result (λ more. more ≡ number * 10 + (byte - 48)) }
 {
@@ -1354,7 +1354,8 @@ fn variable(node: Node) -> Option<Name>
     }
 }
 
-/// Whether a unit that does not stand for itself can begin with the digits of base 16 `value`, of which so many more are to come.
+/// Whether a unit that does not stand for itself can begin with the digits of base 16 `value`, of which so many more
+/// are to come.
 fn can_stand(left: u8, value: u16) -> bool
     requires { 0 < left }
     ensures { result ≡ (nat_lt (value * 16 ^ left) 32 || nat_lt 126 (greatest left value)) }

@@ -6,8 +6,8 @@ use std::alloc::{AllocError, AllocFailed};
 /// Why bytes were not read.
 #[derive(Debug, Drop)]
 pub enum Refusal {
-    /// No program of the subset has these bytes as its text: they stop to be one at this place, the end of the longest part of them, from
-    /// their start, that begins a text.
+    /// No program of the subset has these bytes as its text: they stop to be one at this place, the end of the longest
+    /// part of them, from their start, that begins a text.
     At(Pos),
     /// Memory ran out.
     NoMemory,

@@ -1,7 +1,7 @@
 //! A whole text.
 
 ghost use Rattle.std.specs.Prelude.{◌≡◌, ◌≤◌, ◌<◌, ◌+◌, IfErr, IfOk, length};
-ghost use Rattle.js_tree.specs.Faults.{next_place, place_behind};
+ghost use Rattle.js_tree.specs.Faults.{next_place, place_after};
 ghost use Rattle.js_tree.specs.Postorder.{trees_of, top};
 ghost use Rattle.js_reader.specs.Read.{IsNoText, IsTreeOf, place_view};
 
@@ -33,10 +33,10 @@ fn next_place(place: Pos, byte: u8) -> Pos
 }
 
 /// The place after bytes.
-#[tactic(auto, using(crate::proofs::Places::next_behind))]
-pub fn place_behind(bytes: &[u8]) -> Pos
+#[tactic(auto, using(crate::proofs::Places::next_after))]
+pub fn place_after(bytes: &[u8]) -> Pos
     requires { length bytes.now ≤ 67108864 }
-    ensures { place_view result ≡ place_behind (record { row = 1; column = 1 }) bytes.now }
+    ensures { place_view result ≡ place_after (record { row = 1; column = 1 }) bytes.now }
 {
     let mut place = Pos { row: 1, column: 1 };
     for byte in bytes {
@@ -55,11 +55,11 @@ pub fn read_text(alloc: Global, bytes: &[u8]) -> Result<Trees, Refusal>
     for (index, byte) in bytes.iter().enumerate() {
         reader.step(*byte)?;
         if reader.is_dead() {
-            return Err(Refusal::At(place_behind(&bytes[..index])));
+            return Err(Refusal::At(place_after(&bytes[..index])));
         }
     }
     if reader.is_finished() {
         return Ok(reader.into_trees());
     }
-    Err(Refusal::At(place_behind(bytes)))
+    Err(Refusal::At(place_after(bytes)))
 }

@@ -1,4 +1,4 @@
--- A walk comes to a good end exactly if each use is allowed by what the names are in their scopes.
+-- A walk ends well exactly when each use is allowed by what the names are in their scopes.
 use Rattle.std.proofs.Common.{◌≡◌, ◌≤◌, ℕ, List, [], ◌∷◌, length, Bool, true, false, refl, ap, sym, ◌∙◌, arith}
 use Rattle.std.specs.Prelude.{◌&&◌, ◌||◌, not, nat_le, if◌then◌else◌}
 use Rattle.std.proofs.lemmas.Bool.{le-leb, lt-leb}
@@ -247,7 +247,8 @@ inside names u start facts bound h each =
     ∙ (ap (λ b. is_fine u start inner && b) (settled_fits (length bound) facts later)
     ∙ sym (and_assoc (is_fine u start inner) (is_settled (length bound) later) (agree facts (first_bound (length bound) later))))))
 
--- The marks agree with the scope and the uses are allowed there, exactly if the walk is fine and the marks agree in the end.
+-- The marks agree with the scope and the uses are allowed there, exactly if the walk is fine and the marks agree in the
+-- end.
 pub walk_fits : (u : Uses) (start : ℕ) (facts : List Bool) (bound : List Bound) → start ≤ length bound
     → (agree facts bound && allowed u (scope_of start facts (marked bound))) ≡ (is_fine u start bound && agree facts (after u start bound))
 walk_fits Nothing start facts bound h = and-true (agree facts bound)

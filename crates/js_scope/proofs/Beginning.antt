@@ -1,4 +1,4 @@
--- The tasks for a program come to a good end exactly if its names are bound.
+-- The tasks for a program end well exactly when its names are bound.
 use Rattle.std.proofs.Common.{◌≡◌, List, [], ◌∷◌, length, take, Bool, false, Option, Some, None, refl, sym, ap, ◌∙◌}
 use Rattle.std.specs.Prelude.{◌&&◌}
 use Rattle.js_tree.specs.Tree.{NoField, NoLine}

@@ -1,4 +1,4 @@
--- the tasks for a program come to a good end exactly if its names are bound
+-- the tasks for a program end well exactly when its names are bound
 pub mod Beginning
 -- tasks that go on in the place of one
 pub mod Going
@@ -10,7 +10,7 @@ pub mod Bindings
 pub mod Indexes
 -- the uses of a program are allowed exactly if its names are bound
 pub mod Programs
--- a walk comes to a good end exactly if each use is allowed by what the names are in their scopes
+-- a walk ends well exactly when each use is allowed by what the names are in their scopes
 pub mod Allowed
 -- the marks of assignment that a walk leaves
 pub mod Marks

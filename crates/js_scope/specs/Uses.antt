@@ -1,5 +1,5 @@
--- What trees do with names, and nothing else of them: the names that they read, those that they assign, and the blocks and functions that declare
--- names. The last part of a tree comes first, as its nodes are met from the last one on.
+-- What trees do with names, and nothing else of them: the names that they read, those that they assign, and the blocks
+-- and functions that declare names. The last part of a tree comes first, as its nodes are met from the last one on.
 use Rattle.std.specs.Prelude.{List, [], ◌∷◌}
 use Rattle.js_tree.specs.Tree.{Name, Js, JInt, JBool, JText, JVar, JArrow, JBlock, JCall, JBinary, JConditional}
 use Rattle.js_tree.specs.Tree.{JObject, JProperty, JList, JHelper, JsList, NoJs, MoreJs, Fields, NoField, MoreField}

@@ -1,6 +1,6 @@
--- A walk over the uses of names, with the names that are bound, the innermost first. A name that is bound keeps two marks: it was assigned in the
--- function that binds it; it was met in a function nested in that one. What is bound once so many others are bound belongs to the function at hand
--- if that function began before.
+-- A walk over the uses of names, with the names that are bound, the innermost first. A name that is bound keeps two
+-- marks: it was assigned in the function that binds it; it was met in a function nested in that one. What is bound once
+-- so many others are bound belongs to the function at hand if that function began before.
 use Rattle.std.specs.Prelude.{ℕ, List, [], ◌∷◌, length, Bool, true, false, if◌then◌else◌, ◌&&◌, not, nat_le}
 use Rattle.js_tree.specs.Tree.{Name, same_name}
 use Rattle.js_scope.specs.Uses.{Uses, Nothing, Reads, Assigns, Both, Block, Function}
@@ -74,14 +74,14 @@ is_fine (Block names u) start bound =
 is_fine (Function names u) start bound =
     is_fine u (length bound) (with_names names bound) && is_settled (length bound) (after u (length bound) (with_names names bound))
 
--- a step of the walk: uses; names to bind; the end of a block, with how many were bound before it, and when so many were bound the function round
--- it began
+-- a step of the walk: uses; names to bind; the end of a block, with how many were bound before it, and when so many
+-- were bound the function round it began
 pub data Step : Type 0 where
   Walk : Uses → Step
   Declare : List Name → Step
   Leave : ℕ → ℕ → Step
 
--- the steps come to a good end
+-- the steps end well
 abbrev pub ends_well : List Step → ℕ → List Bound → Bool
 ends_well [] start bound = true
 ends_well (Walk u ∷ steps) start bound = is_fine u start bound && ends_well steps start (after u start bound)

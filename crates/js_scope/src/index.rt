@@ -9,7 +9,8 @@ use js_tree::tree::Name;
 use std::alloc::{AllocError, Global};
 use std::collections::BTreeMap;
 
-/// The place of each name that is bound, and 0 for one that is not. A contract sees it by `place_in`, the function that gives a name its place.
+/// The place of each name that is bound, and 0 for one that is not. A contract sees it by `place_in`, the function that
+/// gives a name its place.
 #[derive(Drop)]
 pub(crate) struct Index<'a> {
     tops: BTreeMap<(&'a [u16], &'a [u16]), usize>,

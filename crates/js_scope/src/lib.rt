@@ -17,8 +17,8 @@ mod scopes;
 mod tasks;
 mod walk;
 
-/// Whether each name of the program that the last tree is, is bound where it is used, and no name that is assigned occurs in a function nested in
-/// its scope. The error means that memory ran out.
+/// Whether each name of the program that the last tree is, is bound where it is used, and no name that is assigned
+/// occurs in a function nested in its scope. The error means that memory ran out.
 pub fn is_bound(alloc: Global, trees: &Trees) -> Result<bool, AllocError>
     ensures { IfOk result (λ yes. yes ≡ names_bound (top (trees_of trees.now))) }
 {

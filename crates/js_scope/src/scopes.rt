@@ -132,8 +132,9 @@ impl<'a> Scopes<'a> {
         )
     }
 
-    /// Goes back to when so many names were bound, in a function that began when so many were. The answer is whether each name that was bound
-    /// since is not both assigned and met in a nested function; if one is, not all may be unbound.
+    /// Goes back to when so many names were bound, in a function that began when so many were. The answer is whether
+    /// each name that was bound since is not both assigned and met in a nested function; if one is, not all may be
+    /// unbound.
     pub(crate) fn leave(&mut self, bound: usize, start: usize) -> Result<bool, AllocError>
         ensures settled { IfOk result (λ settled. settled ≡ is_settled bound self.old.bound) }
         ensures after { IfOk result (λ settled. settled ≡ true → self.new

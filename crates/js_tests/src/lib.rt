@@ -8,14 +8,6 @@ mod json_texts;
 #[cfg(test)]
 mod outputs;
 #[cfg(test)]
-mod printer;
-#[cfg(test)]
-mod reader;
-#[cfg(test)]
-mod round_trip;
-#[cfg(test)]
 mod run_lines;
-#[cfg(test)]
-mod scope;
 #[cfg(test)]
 mod values;

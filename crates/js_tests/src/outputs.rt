@@ -27,7 +27,8 @@ fn output(alloc: Global, first: u8) -> Result<Vec<u8>, AllocError> {
     Ok(text)
 }
 
-/// What a run of `in.txt` puts, or the line of the fault that refuses it, where the output begins with this byte and the file at `path` has the inputs.
+/// What a run of `in.txt` puts, or the line of the fault that refuses it, where the output begins with this byte and
+/// the file at `path` has the inputs.
 fn said(alloc: Global, first: u8, path: &str, inputs: &[u8], fuel: u32) -> Result<Vec<u8>, RunEnd> {
     let text = output(alloc, first)?;
     let mut files = MemFiles::new(alloc, Vec::new(alloc));

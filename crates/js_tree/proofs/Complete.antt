@@ -16,7 +16,7 @@ use Rattle.js_tree.specs.NameReader.{is_hex_digit, hex_value, greatest, begins_u
 use Rattle.js_tree.proofs.NameFronts.{and_true, same, as_it_is, letter_in_word, upper_in_word, past_word}
 use Rattle.js_tree.specs.Automaton.{Place, TextAt, NameAt, State, Want, Have, InName, InInt, Minus_seen, InNegative}
 use Rattle.js_tree.specs.Automaton.{InText, InDigits, name_at, in_int, want, have, minus, is_plain, next_digit}
-use Rattle.js_tree.specs.Automaton.{behind_text, behind_name, step, run}
+use Rattle.js_tree.specs.Automaton.{after_text, after_name, step, run}
 
 -- the text begins with a character that ends a word
 abbrev pub stops : List ℕ → Bool
@@ -157,16 +157,16 @@ read_unit u us a rest h = by_kind (nat_eq u 34 || nat_eq u 92) (is_plain u) refl
         rw (e, g) (lead rest (rw (n34, n92, g) refl))
     by_kind false false e g = rw (e, g) (read_hex u us a rest (grind (arith, nat_tests)) (grind (arith, nat_tests)))
 
-read_units : (vs us : List ℕ) (a : TextAt) (rest : List ℕ) → list_all is_unit vs ≡ true → run (InText us a) (units_text vs ++ 34 ∷ rest) ≡ run (behind_text (us ++ vs) a) rest
-read_units [] us a rest h = lead rest (ap (λ (v : List ℕ). behind_text v a) (sym (append-nil us)))
+read_units : (vs us : List ℕ) (a : TextAt) (rest : List ℕ) → list_all is_unit vs ≡ true → run (InText us a) (units_text vs ++ 34 ∷ rest) ≡ run (after_text (us ++ vs) a) rest
+read_units [] us a rest h = lead rest (ap (λ (v : List ℕ). after_text v a) (sym (append-nil us)))
 read_units (v ∷ vs) us a rest h =
     let w = and_true (is_unit v) (list_all is_unit vs) h in
     along (InText us a) (append_assoc (unit_text v) (units_text vs) (34 ∷ rest))
     ∙ (read_unit v us a (units_text vs ++ 34 ∷ rest) w.0
-    ∙ (read_units vs (us ++ v ∷ []) a rest w.1 ∙ lead rest (ap (λ (t : List ℕ). behind_text t a) (append_assoc us (v ∷ []) vs))))
+    ∙ (read_units vs (us ++ v ∷ []) a rest w.1 ∙ lead rest (ap (λ (t : List ℕ). after_text t a) (append_assoc us (v ∷ []) vs))))
 
 -- after the opening quote
-pub read_text : (vs : List ℕ) (a : TextAt) (rest : List ℕ) → list_all is_unit vs ≡ true → run (InText [] a) (units_text vs ++ 34 ∷ rest) ≡ run (behind_text vs a) rest
+pub read_text : (vs : List ℕ) (a : TextAt) (rest : List ℕ) → list_all is_unit vs ≡ true → run (InText [] a) (units_text vs ++ 34 ∷ rest) ≡ run (after_text vs a) rest
 read_text vs a rest h = read_units vs [] a rest h
 
 -- names: digits of base 16, a unit, the units of a word
@@ -289,7 +289,7 @@ mutual
       ∙ lead rest (ap (λ (t : List ℕ). InName (NameWord (Of t) (c ∷ [])) a) (ap (λ (t : List ℕ). t ++ vs) (join_again m us v b) ∙ append_assoc (join m us) (46 ∷ v ∷ []) vs))))
 
 -- a name, and the character that ends it
-name_is_read : (n : Begun) (x : Name) (a : NameAt) (d : ℕ) (rest : List ℕ) → name_of n ≡ Name_is x → not (is_run d) ≡ true → run (InName n a) (d ∷ rest) ≡ run (behind_name x a d) rest
+name_is_read : (n : Begun) (x : Name) (a : NameAt) (d : ℕ) (rest : List ℕ) → name_of n ≡ Name_is x → not (is_run d) ≡ true → run (InName n a) (d ∷ rest) ≡ run (after_name x a d) rest
 name_is_read n x a d rest e h = lead rest (rw (not_true (is_run d) h, e) refl)
 
 number_goes_on : (a : NameAt) → Grows (2 ^ 64) (λ n. InName (Numbered n) a)
@@ -309,7 +309,7 @@ number_begins a c d = name_goes_on TwoDollars (Numbered (c - 48)) a c (runs c d)
 abbrev pub BeginsName : State → NameAt → Type 0
 BeginsName s a = (c : ℕ) → (nat_eq c 36 || is_upper c) ≡ true → step s c ≡ name_at (begin_name c) a
 
-pub read_name : (s : State) (a : NameAt) → BeginsName s a → (x : Name) (d : ℕ) (rest : List ℕ) → is_name x ≡ true → not (is_run d) ≡ true → run s (name_text x ++ d ∷ rest) ≡ run (behind_name x a d) rest
+pub read_name : (s : State) (a : NameAt) → BeginsName s a → (x : Name) (d : ℕ) (rest : List ℕ) → is_name x ≡ true → not (is_run d) ≡ true → run s (name_text x ++ d ∷ rest) ≡ run (after_name x a d) rest
 read_name s a begins (Made n) d rest h stop =
     lead (36 ∷ (decimal n ++ d ∷ rest)) (begins 36 refl)
     ∙ (digits_from 0 (2 ^ 64) (InName TwoDollars a) (λ m. InName (Numbered m) a) (omega arith) (omega arith) (λ c e l. number_begins a c e) (number_goes_on a) (suc n) n (d ∷ rest) (omega arith) (omega arith) (grind (arith, nat_tests))

@@ -23,7 +23,7 @@ use Rattle.js_tree.specs.Automaton.{LineIn, MainIn, FlagsIn, PortIn, Block, Body
 use Rattle.js_tree.specs.Automaton.{Value, Ports, Literal, Key, PropertyOf, ModuleIn, OutIn, Variable, ConstAt, LetAt}
 use Rattle.js_tree.specs.Automaton.{AssignAt, LineAt, State, Want, Have, WantName, WantField, WantStatement, WantLine}
 use Rattle.js_tree.specs.Automaton.{WantLineName, WantOut, HaveOut, Known, Finished, known, close_block, program_of}
-use Rattle.js_tree.specs.Automaton.{reversed_onto, behind_text, step, run, start}
+use Rattle.js_tree.specs.Automaton.{reversed_onto, after_text, step, run, start}
 use Rattle.js_tree.proofs.Steps.{zero_text, main_parts}
 use Rattle.js_tree.proofs.StepFits.{thirds}
 use Rattle.js_tree.proofs.Complete.{stops, along, lead, read_int, read_text, read_name, BeginsName}
@@ -306,7 +306,7 @@ read_outs (o ∷ os) g ins h =
     ∙ (read_text o (OutIn g ins []) (58 ∷ 48 ∷ (more_fields_text (outs_fields os) ++ end_text)) w.0 ∙ read_more_outs os o [] g ins w.1)
 
 -- the line of `_main`
-read_name_line : (before : LinesBefore) (name rest : List ℕ) → list_all is_unit name ≡ true → run (WantLine before) (codes "const _main={\"name\":" ++ 34 ∷ (units_text name ++ 34 ∷ rest)) ≡ run (behind_text name (ModuleIn before)) rest
+read_name_line : (before : LinesBefore) (name rest : List ℕ) → list_all is_unit name ≡ true → run (WantLine before) (codes "const _main={\"name\":" ++ 34 ∷ (units_text name ++ 34 ∷ rest)) ≡ run (after_text name (ModuleIn before)) rest
 read_name_line before name rest h = read_text name (ModuleIn before) rest h
 
 main_line_parts : (name main flags ins ports : List ℕ)

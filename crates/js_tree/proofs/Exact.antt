@@ -1,9 +1,10 @@
--- Reading is exact: what is read is what the bytes spell, no bytes are two programs' text, and the reader stops where no program's text goes on so.
+-- Reading is exact: what is read is what the bytes spell, no bytes are two programs' text, and the reader stops where
+-- no program's text goes on so.
 use Rattle.std.proofs.Common.{◌≡◌, ℕ, List, [], ◌∷◌, ◌++◌, true, refl, ap, sym, ◌∙◌, subst, append_assoc, append-nil}
 use Rattle.std.proofs.Common.{◌⊎◌, inl, inr}
 use Rattle.js_tree.specs.Tree.{Program}
 use Rattle.js_tree.specs.Text.{JsText}
-use Rattle.js_tree.specs.Faults.{Begins, IsFaultAt, Place, place_behind}
+use Rattle.js_tree.specs.Faults.{Begins, IsFaultAt, Place, place_after}
 use Rattle.js_tree.specs.Subset.{is_program_spelled}
 use Rattle.js_tree.specs.Automaton.{State, Finished, Dead, step, run, start, is_live}
 use Rattle.js_tree.proofs.Fronts.{IsFront, state_fits}
@@ -63,7 +64,7 @@ live_where_begins front b = by_cases (live_or_dead (run start front))
     by_cases (inr d) = let r : Finished b.program ≡ Dead = sym (read_back b.program (front ++ b.rest) b.spelled b.text) ∙ (run_on front b.rest start ∙ (ap (λ t. run t b.rest) d ∙ dead_stays b.rest)) in absurd (finished_is_not_dead b.program r)
 
 -- the reader stops where the bytes stop to be a text: before a character that leads nowhere, or at their end
-pub fault_inside : (front : List ℕ) (c : ℕ) (behind : List ℕ) (p : Place) → is_live (run start front) ≡ true → step (run start front) c ≡ Dead → place_behind (record { row = 1; column = 1 }) front ≡ p → IsFaultAt (front ++ c ∷ behind) p
+pub fault_inside : (front : List ℕ) (c : ℕ) (behind : List ℕ) (p : Place) → is_live (run start front) ≡ true → step (run start front) c ≡ Dead → place_after (record { row = 1; column = 1 }) front ≡ p → IsFaultAt (front ++ c ∷ behind) p
 fault_inside front c behind p l d e = record {
   front = front;
   rest = c ∷ behind;
@@ -82,7 +83,7 @@ fault_inside front c behind p l d e = record {
     no_more : (c' : ℕ) → Begins (front ++ c' ∷ []) → c ≡ c' → ⊥
     no_more c' b q = dead (run start (front ++ c' ∷ [])) (live_where_begins (front ++ c' ∷ []) b) (run_on front (c' ∷ []) start ∙ (ap (λ x. step (run start front) x) (sym q) ∙ d))
 
-pub fault_at_end : (bytes : List ℕ) (p : Place) → is_live (run start bytes) ≡ true → place_behind (record { row = 1; column = 1 }) bytes ≡ p → IsFaultAt bytes p
+pub fault_at_end : (bytes : List ℕ) (p : Place) → is_live (run start bytes) ≡ true → place_after (record { row = 1; column = 1 }) bytes ≡ p → IsFaultAt bytes p
 fault_at_end bytes p l e = record {
   front = bytes;
   rest = [];

@@ -205,7 +205,8 @@ name_at_fits (LetAt before b) = block_fits b && before_fits before
 name_at_fits (AssignAt before b) = block_fits b && before_fits before
 name_at_fits (LineAt before) = lines_fit before
 
--- so many digits of base 16 of four are to come after the next, and a unit can come of them that does not stand for itself
+-- so many digits of base 16 of four are to come after the next, and a unit can come of them that does not stand for
+-- itself
 abbrev pub escape_fits : ℕ → ℕ → Bool
 escape_fits n a = nat_le n 3 && (nat_lt a (16 ^ (3 - n)) && (nat_lt (a * 16 ^ suc n) 32 || nat_lt 126 (greatest (suc n) a)))
 

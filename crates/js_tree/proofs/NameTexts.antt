@@ -34,7 +34,8 @@ owner_fits Own us = is_word us
 owner_fits (Of []) us = is_word us && begins_upper us
 owner_fits (Of (v ∷ vs)) us = is_module true (v ∷ vs) && is_word us
 
--- so many digits of base 16 of four are to come after the next, and a unit past the characters of a word can come of them
+-- so many digits of base 16 of four are to come after the next, and a unit past the characters of a word can come of
+-- them
 abbrev pub digits_fit : ℕ → ℕ → Bool
 digits_fit n a = nat_le n 3 && (nat_lt a (16 ^ (3 - n)) && nat_le 128 (greatest (suc n) a))
 

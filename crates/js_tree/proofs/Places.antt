@@ -1,7 +1,7 @@
 -- Bytes stop to be a text at exactly one place.
 use Rattle.std.proofs.Common.{◌≡◌, ℕ, List, [], ◌∷◌, ◌++◌, true, refl, ap, sym, ◌∙◌, subst, append_assoc, append-nil}
 use Rattle.std.proofs.Common.{◌⊎◌, inl, inr}
-use Rattle.js_tree.specs.Faults.{Begins, Place, place_behind, IsFaultAt, Stops}
+use Rattle.js_tree.specs.Faults.{Begins, Place, place_after, IsFaultAt, Stops}
 use Rattle.js_tree.specs.Automaton.{Dead, step, run, start, is_live}
 use Rattle.js_tree.proofs.Plugs.{shorter}
 use Rattle.js_tree.proofs.Exact.{run_on, live_or_dead, fault_inside, fault_at_end}
@@ -14,12 +14,12 @@ stops_at bytes p h = record { place = p; there = h }
 
 -- along the bytes, as long as the reader is not dead
 stops_from : (rest front : List ℕ) → is_live (run start front) ≡ true → Stops (front ++ rest)
-stops_from [] front l = subst Stops (sym (append-nil front)) (stops_at front (place_behind first_place front) (fault_at_end front (place_behind first_place front) l refl))
+stops_from [] front l = subst Stops (sym (append-nil front)) (stops_at front (place_after first_place front) (fault_at_end front (place_after first_place front) l refl))
 stops_from (c ∷ rest) front l = by_step (live_or_dead (step (run start front) c)) (λ m. stops_from rest (front ++ c ∷ []) (subst (λ s. is_live s ≡ true) (sym (run_on front (c ∷ []) start)) m))
   where
     by_step : (is_live (step (run start front) c) ≡ true) ⊎ (step (run start front) c ≡ Dead) → (is_live (step (run start front) c) ≡ true → Stops ((front ++ c ∷ []) ++ rest)) → Stops (front ++ c ∷ rest)
     by_step (inl m) go = subst Stops (append_assoc front (c ∷ []) rest) (go m)
-    by_step (inr d) go = stops_at (front ++ c ∷ rest) (place_behind first_place front) (fault_inside front c rest (place_behind first_place front) l d refl)
+    by_step (inr d) go = stops_at (front ++ c ∷ rest) (place_after first_place front) (fault_inside front c rest (place_after first_place front) l d refl)
 
 pub stops : (bytes : List ℕ) → Stops bytes
 stops bytes = stops_from bytes [] refl
@@ -59,6 +59,6 @@ pub one_place : (bytes : List ℕ) (p q : Place) → IsFaultAt bytes p → IsFau
 one_place bytes p q h k = by_cases (compare h.front h.rest k.front k.rest (sym h.whole ∙ k.whole))
   where
     by_cases : (h.front ≡ k.front) ⊎ (GoesOn h.front h.rest k.front ⊎ GoesOn k.front k.rest h.front) → p ≡ q
-    by_cases (inl e) = sym h.behind ∙ (ap (λ (f : List ℕ). place_behind first_place f) e ∙ k.behind)
+    by_cases (inl e) = sym h.behind ∙ (ap (λ (f : List ℕ). place_after first_place f) e ∙ k.behind)
     by_cases (inr (inl o)) = absurd (no_longer bytes p q h k o)
     by_cases (inr (inr o)) = absurd (no_longer bytes q p k h o)

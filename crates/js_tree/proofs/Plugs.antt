@@ -30,7 +30,8 @@ ports_rest = codes "},\"outs\":{" ++ (codes "}};\n" ++ TAIL.now)
 abbrev front_of_line : LinesBefore → List ℕ → Js → Js → Front
 front_of_line before name main flags = record { lines = before; name = name; main = main; flags = flags }
 
--- what may stand after an expression, and after the statements of a block, up to the end; 0 and `continue;` are put where something is missing
+-- what may stand after an expression, and after the statements of a block, up to the end; 0 and `continue;` are put
+-- where something is missing
 abbrev mutual
   pub place_rest : Place → List ℕ
   place_rest (ArgumentOf f k) = codes ")" ++ place_rest k
@@ -58,7 +59,7 @@ abbrev mutual
   block_rest (ElseIn before c s b) = codes "}" ++ block_rest b
   block_rest (LoopIn before b) = codes "}" ++ block_rest b
 
--- the program that they come to
+-- the program that they make
 abbrev mutual
   pub place_program : Place → Js → Program
   place_program (ArgumentOf f k) e = place_program k (JCall f e)

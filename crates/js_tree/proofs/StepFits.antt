@@ -25,10 +25,10 @@ use Rattle.js_tree.specs.Automaton.{Variable, ConstAt, LetAt, AssignAt, LineAt, 
 use Rattle.js_tree.specs.Automaton.{Minus_seen, InNegative, InText, InEscape, InDigits, InWord, WantName, WantField}
 use Rattle.js_tree.specs.Automaton.{WantStatement, InKeyword, Ended, Equals, WantLine, WantLineName, WantOut, HaveOut}
 use Rattle.js_tree.specs.Automaton.{Known, Finished, Dead, Word, TrueWord, FalseWord, ListWord, HelperWord, words}
-use Rattle.js_tree.specs.Automaton.{word_text, begins_with, begin_statement_words, behind_word, find_word, in_word}
+use Rattle.js_tree.specs.Automaton.{word_text, begins_with, begin_statement_words, after_word, find_word, in_word}
 use Rattle.js_tree.specs.Automaton.{in_keyword, known, close_block, operator_at, on_bracket, close, have, no_parameter}
-use Rattle.js_tree.specs.Automaton.{no_expression, name_at, int_at, minus, negative_at, want, behind_name, end_name}
-use Rattle.js_tree.specs.Automaton.{in_name, behind_text, is_plain, in_text, in_escape, next_digit, close_fields}
+use Rattle.js_tree.specs.Automaton.{no_expression, name_at, int_at, minus, negative_at, want, after_name, end_name}
+use Rattle.js_tree.specs.Automaton.{in_name, after_text, is_plain, in_text, in_escape, next_digit, close_fields}
 use Rattle.js_tree.specs.Automaton.{want_field, want_statement, equals, want_line_name, end_outs, reversed_onto}
 use Rattle.js_tree.specs.Automaton.{want_out, have_out, step, is_live}
 use Rattle.js_tree.proofs.Fronts.{items_fit, members_fit, before_fits, lines_fit, front_fits, outs_fit, place_fits}
@@ -150,16 +150,16 @@ name_at_is_fit (NameWord o us) a h p = two (name_at_fits a) _ h p
 name_at_is_fit (Dollar o us) a h p = two (name_at_fits a) _ h p
 name_at_is_fit (Digits o us n v) a h p = two (name_at_fits a) _ h p
 
-behind_name_fits : (x : Name) (a : NameAt) (c : ℕ) → name_at_fits a ≡ true → is_name x ≡ true → Fits (behind_name x a c)
-behind_name_fits x (Variable k) c h p = have_fits (JVar x) k c h p
-behind_name_fits x (ConstAt before b) c h p = let w = and_true (block_fits b) (before_fits before) h in ifs Fits (nat_eq c 61) (λ _. three (block_fits b) (before_fits before) (is_name x) w.0 w.1 p) (λ _. refl)
-behind_name_fits x (LetAt before b) c h p = let w = and_true (block_fits b) (before_fits before) h in ifs Fits (nat_eq c 61) (λ _. three (block_fits b) (before_fits before) (is_name x) w.0 w.1 p) (λ _. refl)
-behind_name_fits x (AssignAt before b) c h p = let w = and_true (block_fits b) (before_fits before) h in ifs Fits (nat_eq c 61) (λ _. three (block_fits b) (before_fits before) (is_name x) w.0 w.1 p) (λ _. refl)
-behind_name_fits x (LineAt before) c h p = ifs Fits (nat_eq c 61) (λ _. two (lines_fit before) (is_name x) h p) (λ _. refl)
+after_name_fits : (x : Name) (a : NameAt) (c : ℕ) → name_at_fits a ≡ true → is_name x ≡ true → Fits (after_name x a c)
+after_name_fits x (Variable k) c h p = have_fits (JVar x) k c h p
+after_name_fits x (ConstAt before b) c h p = let w = and_true (block_fits b) (before_fits before) h in ifs Fits (nat_eq c 61) (λ _. three (block_fits b) (before_fits before) (is_name x) w.0 w.1 p) (λ _. refl)
+after_name_fits x (LetAt before b) c h p = let w = and_true (block_fits b) (before_fits before) h in ifs Fits (nat_eq c 61) (λ _. three (block_fits b) (before_fits before) (is_name x) w.0 w.1 p) (λ _. refl)
+after_name_fits x (AssignAt before b) c h p = let w = and_true (block_fits b) (before_fits before) h in ifs Fits (nat_eq c 61) (λ _. three (block_fits b) (before_fits before) (is_name x) w.0 w.1 p) (λ _. refl)
+after_name_fits x (LineAt before) c h p = ifs Fits (nat_eq c 61) (λ _. two (lines_fit before) (is_name x) h p) (λ _. refl)
 
 end_name_fits : (n : Begun) (found : Found) (a : NameAt) (c : ℕ) → name_of n ≡ found → begun_fits n ≡ true → name_at_fits a ≡ true → Fits (end_name found a c)
 end_name_fits n Not a c e b h = refl
-end_name_fits n (Name_is x) a c e b h = behind_name_fits x a c h (name_ends n x b e).1
+end_name_fits n (Name_is x) a c e b h = after_name_fits x a c h (name_ends n x b e).1
 
 in_name_fits : (n : Begun) (a : NameAt) (c : ℕ) → name_at_fits a ≡ true → begun_fits n ≡ true → Fits (in_name n a c)
 in_name_fits n a c h b = ifs Fits (is_run c) (λ _. name_at_is_fit (name_step n c) a h (name_fits n c b)) (λ _. end_name_fits n (name_of n) a c refl b h)
@@ -170,13 +170,13 @@ int_at_fits n k h = ifs Fits (is_exact (pos n)) (λ x. two (place_fits k) _ h x)
 negative_at_fits : (n : ℕ) (k : Place) → place_fits k ≡ true → Fits (negative_at n k)
 negative_at_fits n k h = ifs Fits (is_exact (minus n) && nat_lt 0 n) (λ x. two (place_fits k) _ h x) (λ _. refl)
 
-word_fits : (w : Word) (k : Place) → place_fits k ≡ true → Fits (behind_word w k)
+word_fits : (w : Word) (k : Place) → place_fits k ≡ true → Fits (after_word w k)
 word_fits TrueWord k h = two (place_fits k) true h refl
 word_fits FalseWord k h = two (place_fits k) true h refl
 word_fits ListWord k h = two (place_fits k) true h refl
 word_fits (HelperWord p) k h = two (place_fits k) true h refl
 
-find_word_fits : (ws : List Word) (cs : List ℕ) (none : State) (k : Place) → place_fits k ≡ true → Fits none → Fits (find_word ws cs none (λ w. behind_word w k))
+find_word_fits : (ws : List Word) (cs : List ℕ) (none : State) (k : Place) → place_fits k ≡ true → Fits none → Fits (find_word ws cs none (λ w. after_word w k))
 find_word_fits [] cs none k h n = n
 find_word_fits (w ∷ ws) cs none k h n = ifs Fits (bytes_eq (word_text w) cs) (λ _. word_fits w k h) (λ _. find_word_fits ws cs none k h n)
 
@@ -204,20 +204,20 @@ want_fits k c h =
     (λ _. ifs Fits (nat_eq c 95 || (nat_eq c 116 || nat_eq c 102)) (λ _. in_word_fits (c ∷ []) k h)
     (λ _. no_expression_fits k c h))))))
 
-behind_text_fits : (us : List ℕ) (a : TextAt) → text_fits a ≡ true → list_all is_unit us ≡ true → Fits (behind_text us a)
-behind_text_fits us (Literal k) h p = two (place_fits k) _ h p
-behind_text_fits us (Key before (Value k)) h p = let w = and_true (place_fits k) (members_fit before) h in three (place_fits k) (members_fit before) (list_all is_unit us) w.0 w.1 p
-behind_text_fits us (Key before (Ports g)) h p = let w = and_true (front_fits g) (members_fit before) h in three (front_fits g) (members_fit before) (list_all is_unit us) w.0 w.1 p
-behind_text_fits us (PropertyOf e k) h p = let w = and_true (place_fits k) (is_spelled e) h in three (place_fits k) (is_spelled e) (list_all is_unit us) w.0 w.1 p
-behind_text_fits us (ModuleIn before) h p = two (lines_fit before) _ h p
-behind_text_fits us (OutIn g ins outs) h p = let w = thirds (front_fits g) (fields_spelled ins) (outs_fit outs) h in two (front_fits g) _ w.0 (three (fields_spelled ins) (list_all is_unit us) (outs_fit outs) w.1.0 p w.1.1)
+after_text_fits : (us : List ℕ) (a : TextAt) → text_fits a ≡ true → list_all is_unit us ≡ true → Fits (after_text us a)
+after_text_fits us (Literal k) h p = two (place_fits k) _ h p
+after_text_fits us (Key before (Value k)) h p = let w = and_true (place_fits k) (members_fit before) h in three (place_fits k) (members_fit before) (list_all is_unit us) w.0 w.1 p
+after_text_fits us (Key before (Ports g)) h p = let w = and_true (front_fits g) (members_fit before) h in three (front_fits g) (members_fit before) (list_all is_unit us) w.0 w.1 p
+after_text_fits us (PropertyOf e k) h p = let w = and_true (place_fits k) (is_spelled e) h in three (place_fits k) (is_spelled e) (list_all is_unit us) w.0 w.1 p
+after_text_fits us (ModuleIn before) h p = two (lines_fit before) _ h p
+after_text_fits us (OutIn g ins outs) h p = let w = thirds (front_fits g) (fields_spelled ins) (outs_fit outs) h in two (front_fits g) _ w.0 (three (fields_spelled ins) (list_all is_unit us) (outs_fit outs) w.1.0 p w.1.1)
 
 text_goes_on : (us : List ℕ) (a : TextAt) (u : ℕ) → text_fits a ≡ true → list_all is_unit us ≡ true → is_unit u ≡ true → Fits (InText (us ++ u ∷ []) a)
 text_goes_on us a u h p q = two (text_fits a) _ h (list_all-append is_unit us (u ∷ []) p (two (is_unit u) true q refl))
 
 in_text_fits : (us : List ℕ) (a : TextAt) (c : ℕ) → text_fits a ≡ true → list_all is_unit us ≡ true → Fits (in_text us a c)
 in_text_fits us a c h p =
-    ifs Fits (nat_eq c 34) (λ _. behind_text_fits us a h p) (λ _. ifs Fits (nat_eq c 92) (λ _. two (text_fits a) _ h p) (λ _. ifs Fits (is_plain c) (λ q. text_goes_on us a c h p (grind (arith, nat_tests))) (λ _. refl)))
+    ifs Fits (nat_eq c 34) (λ _. after_text_fits us a h p) (λ _. ifs Fits (nat_eq c 92) (λ _. two (text_fits a) _ h p) (λ _. ifs Fits (is_plain c) (λ q. text_goes_on us a c h p (grind (arith, nat_tests))) (λ _. refl)))
 
 in_escape_fits : (us : List ℕ) (a : TextAt) (c : ℕ) → text_fits a ≡ true → list_all is_unit us ≡ true → Fits (in_escape us a c)
 in_escape_fits us a c h p =

@@ -30,10 +30,10 @@ use Rattle.js_tree.specs.Automaton.{Variable, ConstAt, LetAt, AssignAt, LineAt, 
 use Rattle.js_tree.specs.Automaton.{Minus_seen, InNegative, InText, InEscape, InDigits, InWord, WantName, WantField}
 use Rattle.js_tree.specs.Automaton.{WantStatement, InKeyword, Ended, Equals, WantLine, WantLineName, WantOut, HaveOut}
 use Rattle.js_tree.specs.Automaton.{Known, Finished, Dead, Word, TrueWord, FalseWord, ListWord, HelperWord, words}
-use Rattle.js_tree.specs.Automaton.{word_text, begins_with, begin_statement_words, behind_word, find_word, in_word}
+use Rattle.js_tree.specs.Automaton.{word_text, begins_with, begin_statement_words, after_word, find_word, in_word}
 use Rattle.js_tree.specs.Automaton.{in_keyword, known, close_block, operator_at, program_of, on_bracket, close, have}
-use Rattle.js_tree.specs.Automaton.{no_parameter, no_expression, name_at, int_at, minus, negative_at, want, behind_name}
-use Rattle.js_tree.specs.Automaton.{end_name, in_name, in_int, in_negative, behind_text, is_plain, in_text, in_escape}
+use Rattle.js_tree.specs.Automaton.{no_parameter, no_expression, name_at, int_at, minus, negative_at, want, after_name}
+use Rattle.js_tree.specs.Automaton.{end_name, in_name, in_int, in_negative, after_text, is_plain, in_text, in_escape}
 use Rattle.js_tree.specs.Automaton.{next_digit, close_fields, want_field, want_statement, equals, want_line_name}
 use Rattle.js_tree.specs.Automaton.{end_outs, reversed_onto, want_out, have_out, step}
 use Rattle.js_tree.proofs.Fronts.{items_text, members_text, before_text, lines_before_text, outs_front, outs_text}
@@ -161,16 +161,16 @@ name_at_front (Digits o us n v) a g f h r = rw (h, r) refl
 begin_front : (a : NameAt) (c : ℕ) (f : List ℕ) → f ≡ name_front a → Next f c (name_at (begin_name c) a)
 begin_front a c f h = name_at_front (begin_name c) a f (c ∷ []) h (name_begun c)
 
-behind_name_front : (x : Name) (a : NameAt) (c : ℕ) (f : List ℕ) → f ≡ name_front a ++ name_text x → Next f c (behind_name x a c)
-behind_name_front x (Variable k) c f h = have_front (JVar x) k c f h
-behind_name_front x (ConstAt before b) c f h = ifs (Next f c) (nat_eq c 61) (λ q. on c 61 h q refl) (λ _. tt)
-behind_name_front x (LetAt before b) c f h = ifs (Next f c) (nat_eq c 61) (λ q. on c 61 h q refl) (λ _. tt)
-behind_name_front x (AssignAt before b) c f h = ifs (Next f c) (nat_eq c 61) (λ q. on c 61 h q refl) (λ _. tt)
-behind_name_front x (LineAt before) c f h = ifs (Next f c) (nat_eq c 61) (λ q. on c 61 h q refl) (λ _. tt)
+after_name_front : (x : Name) (a : NameAt) (c : ℕ) (f : List ℕ) → f ≡ name_front a ++ name_text x → Next f c (after_name x a c)
+after_name_front x (Variable k) c f h = have_front (JVar x) k c f h
+after_name_front x (ConstAt before b) c f h = ifs (Next f c) (nat_eq c 61) (λ q. on c 61 h q refl) (λ _. tt)
+after_name_front x (LetAt before b) c f h = ifs (Next f c) (nat_eq c 61) (λ q. on c 61 h q refl) (λ _. tt)
+after_name_front x (AssignAt before b) c f h = ifs (Next f c) (nat_eq c 61) (λ q. on c 61 h q refl) (λ _. tt)
+after_name_front x (LineAt before) c f h = ifs (Next f c) (nat_eq c 61) (λ q. on c 61 h q refl) (λ _. tt)
 
 end_name_front : (n : Begun) (found : Found) (a : NameAt) (c : ℕ) (f : List ℕ) → name_of n ≡ found → begun_fits n ≡ true → f ≡ name_front a ++ begun_text n → Next f c (end_name found a c)
 end_name_front n Not a c f e b h = tt
-end_name_front n (Name_is x) a c f e b h = behind_name_front x a c f (rw (h, (name_ends n x b e).0) refl)
+end_name_front n (Name_is x) a c f e b h = after_name_front x a c f (rw (h, (name_ends n x b e).0) refl)
 
 in_name_front : (n : Begun) (a : NameAt) (c : ℕ) (f : List ℕ) → begun_fits n ≡ true → f ≡ name_front a ++ begun_text n → Next f c (in_name n a c)
 in_name_front n a c f b h =
@@ -191,13 +191,13 @@ pub same_bytes : (x y : List ℕ) → bytes_eq x y ≡ true → x ≡ y
 same_bytes x y e = (bytes_eq-Decides x y).0 e
 
 -- the words
-word_front : (w : Word) (k : Place) (f : List ℕ) → f ≡ place_text k ++ word_text w → IsFront (behind_word w k) f
+word_front : (w : Word) (k : Place) (f : List ℕ) → f ≡ place_text k ++ word_text w → IsFront (after_word w k) f
 word_front TrueWord k f h = h
 word_front FalseWord k f h = h
 word_front ListWord k f h = h ∙ sym (append-nil _)
 word_front (HelperWord p) k f h = h ∙ simp append_assoc
 
-find_word_front : (ws : List Word) (cs : List ℕ) (none : State) (k : Place) (f : List ℕ) → f ≡ place_text k ++ cs → IsFront none f → IsFront (find_word ws cs none (λ w. behind_word w k)) f
+find_word_front : (ws : List Word) (cs : List ℕ) (none : State) (k : Place) (f : List ℕ) → f ≡ place_text k ++ cs → IsFront none f → IsFront (find_word ws cs none (λ w. after_word w k)) f
 find_word_front [] cs none k f h n = n
 find_word_front (w ∷ ws) cs none k f h n =
     ifs (λ s. IsFront s f) (bytes_eq (word_text w) cs) (λ q. word_front w k f (h ∙ ap (λ (v : List ℕ). place_text k ++ v) (sym (same_bytes (word_text w) cs q)))) (λ _. find_word_front ws cs none k f h n)
@@ -253,14 +253,14 @@ in_negative_front (suc n) k c f x z h =
     grows : (n c : ℕ) → is_exact (minus (suc n)) ≡ true → is_digit c ≡ true → suc n * 10 + (c - 48) < 2 ^ 64
     grows n c x d = grind (arith, nat_tests)
 
-behind_text_front : (us : List ℕ) (a : TextAt) (f : List ℕ) → f ≡ text_front a ++ text_text us → IsFront (behind_text us a) f
-behind_text_front us (Literal k) f h = h
-behind_text_front us (Key before (Value k)) f h = rw h (simp append_assoc)
-behind_text_front us (Key before (Ports g)) f h = rw h (simp append_assoc)
-behind_text_front us (PropertyOf e k) f h = rw h (simp append_assoc)
-behind_text_front us (ModuleIn before) f h = rw h refl
-behind_text_front us (OutIn g ins []) f h = rw h (simp append_assoc)
-behind_text_front us (OutIn g ins (o ∷ outs)) f h = rw h (simp append_assoc)
+after_text_front : (us : List ℕ) (a : TextAt) (f : List ℕ) → f ≡ text_front a ++ text_text us → IsFront (after_text us a) f
+after_text_front us (Literal k) f h = h
+after_text_front us (Key before (Value k)) f h = rw h (simp append_assoc)
+after_text_front us (Key before (Ports g)) f h = rw h (simp append_assoc)
+after_text_front us (PropertyOf e k) f h = rw h (simp append_assoc)
+after_text_front us (ModuleIn before) f h = rw h refl
+after_text_front us (OutIn g ins []) f h = rw h (simp append_assoc)
+after_text_front us (OutIn g ins (o ∷ outs)) f h = rw h (simp append_assoc)
 
 units_grow : (us : List ℕ) (u : ℕ) → units_text (us ++ u ∷ []) ≡ units_text us ++ unit_text u
 units_grow [] u = append-nil _
@@ -282,7 +282,7 @@ in_text_front : (us : List ℕ) (a : TextAt) (c : ℕ) (f : List ℕ) → f ≡ 
 in_text_front us a c f h = by_kind (nat_eq c 34) (nat_eq c 92) refl refl
   where
     by_kind : (p q : Bool) → nat_eq c 34 ≡ p → nat_eq c 92 ≡ q → Next f c (in_text us a c)
-    by_kind true q x y = rw x (behind_text_front us a _ (rw (h, same c 34 x) (simp append_assoc)))
+    by_kind true q x y = rw x (after_text_front us a _ (rw (h, same c 34 x) (simp append_assoc)))
     by_kind false true x y = rw (x, y) (on c 92 h y (simp append_assoc))
     by_kind false false x y = rw (x, y) (ifs (Next f c) (is_plain c) (λ r. rw h (append_assoc (text_front a) (34 ∷ units_text us) (c ∷ []) ∙ text_grows (text_front a) us (c ∷ []) c (plain_text c x y r))) (λ _. tt))
 

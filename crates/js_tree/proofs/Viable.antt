@@ -247,8 +247,8 @@ in_a_number : (n : ℕ) (k : Place) (f : List ℕ) → place_fits k ≡ true →
 in_a_number zero k f h x s q = absurd cc
 in_a_number (suc n) k f h x s q = shorter f (codes ")") (at_value k (JInt (negsuc n)) (f ++ codes ")") h x (rw q (simp append_assoc)))
 
-behind_minus : (k : Place) (f : List ℕ) → place_fits k ≡ true → f ≡ place_text k ++ codes "(-" → Begins f
-behind_minus k f h q = shorter f (codes "1") (in_a_number 1 k (f ++ codes "1") h refl refl (rw (q, decimal_digit 1 (omega arith)) refl))
+after_minus : (k : Place) (f : List ℕ) → place_fits k ≡ true → f ≡ place_text k ++ codes "(-" → Begins f
+after_minus k f h q = shorter f (codes "1") (in_a_number 1 k (f ++ codes "1") h refl refl (rw (q, decimal_digit 1 (omega arith)) refl))
 
 in_escape_sign : (us : List ℕ) (a : TextAt) (f : List ℕ) → text_fits a ≡ true → list_all is_unit us ≡ true → f ≡ text_front a ++ 34 ∷ (units_text us ++ 92 ∷ []) → Begins f
 in_escape_sign us a f h p q = shorter f (codes "\"") (in_a_text (us ++ 34 ∷ []) a (f ++ codes "\"") h (text_with us 34 p refl) (rw q (parts ∙ text_grows (text_front a) us (92 ∷ 34 ∷ []) 34 refl)))
@@ -268,7 +268,7 @@ viable (Want k) f l h q = at_place k f h q
 viable (Have e k) f l h q = let w = and_true (place_fits k) (is_spelled e) h in at_value k e f w.0 w.1 q
 viable (InName n a) f l h q = let w = thirds (name_at_fits a) (is_begun n) (begun_fits n) h in in_a_name n a f w.0 w.1.0 w.1.1 q
 viable (InInt n k) f l h q = let w = and_true (place_fits k) (is_exact (pos n)) h in at_value k (JInt (pos n)) f w.0 w.1 q
-viable (Minus_seen k) f l h q = behind_minus k f h q
+viable (Minus_seen k) f l h q = after_minus k f h q
 viable (InNegative n k) f l h q = let w = thirds (place_fits k) (is_exact (minus n)) (nat_lt 0 n) h in in_a_number n k f w.0 w.1.0 w.1.1 q
 viable (InText us a) f l h q = let w = and_true (text_fits a) (list_all is_unit us) h in in_a_text us a f w.0 w.1 q
 viable (InEscape us a) f l h q = let w = and_true (text_fits a) (list_all is_unit us) h in in_escape_sign us a f w.0 w.1 q

@@ -1,5 +1,5 @@
--- The texts of programs, read character by character: what the characters so far have come to, and where one more leads. What no program's
--- text begins with leads to Dead, and everything else to what stands in that text so far.
+-- The texts of programs, read character by character: the state after the characters so far, and where one more leads.
+-- What no program's text begins with leads to Dead, and everything else to what stands in that text so far.
 use Rattle.std.specs.Prelude.{ℕ, zero, suc, ◌+◌, ◌-◌, ◌*◌, ◌^◌, ℤ, pos, negsuc, List, [], ◌∷◌, ◌++◌, Bool, true, false}
 use Rattle.std.specs.Prelude.{◌&&◌, ◌||◌, ◌==◌, nat_le, nat_lt, if◌then◌else◌, codes}
 use Rattle.std.specs.List.{list_any}
@@ -26,9 +26,10 @@ pub record Front : Type 0 where
   pub main : Js
   pub flags : Js
 
--- Where an expression stands, from the inside: the argument of a call; the first in a bracket, or after an operator, a question mark or a colon in it; a field's
--- value; in a list; the argument of a function of the fixed text; in a statement; in a line; in the object of `_main`.
--- Where a block stands: the body of a function; of one called at once; after if and after else; in a loop.
+-- Where an expression stands, from the inside: the argument of a call; the first in a bracket, or after an operator, a
+-- question mark or a colon in it; a field's value; in a list; the argument of a function of the fixed text; in a
+-- statement; in a line; in the object of `_main`. Where a block stands: the body of a function; of one called at once;
+-- after if and after else; in a loop.
 mutual
   pub data Place : Type 0 where
     ArgumentOf : Js → Place → Place
@@ -77,10 +78,11 @@ pub data NameAt : Type 0 where
   AssignAt : Before → Block → NameAt
   LineAt : LinesBefore → NameAt
 
--- Where the reader is: before an expression, and after one; in a name, a number, a negative number (after its -, and after a digit), a
--- text, an escape of one, its digits; in a word; before a name; before a field; before a statement, in the word of one, and after the last
--- of a block; after an = that is part of => or ===; before a line, and a line's name; before an outgoing port, and after one; before
--- characters that are known; at the end. Outs are in reverse order.
+-- Where the reader is: before an expression, and after one; in a name, a number, a negative number (after its -, and
+-- after a digit), a text, an escape of one, its digits; in a word; before a name; before a field; before a statement,
+-- in the word of one, and after the last of a block; after an = that is part of => or ===; before a line, and a line's
+-- name; before an outgoing port, and after one; before characters that are known; at the end. Outs are in reverse
+-- order.
 pub data State : Type 0 where
   Want : Place → State
   Have : Js → Place → State
@@ -137,11 +139,11 @@ abbrev pub begin_statement_words : List (List ℕ)
 begin_statement_words = codes "const " ∷ codes "let " ∷ codes "return " ∷ codes "if(" ∷ codes "while(true){" ∷ codes "continue;" ∷ []
 
 -- after such a word
-abbrev pub behind_word : Word → Place → State
-behind_word TrueWord k = Have (JBool true) k
-behind_word FalseWord k = Have (JBool false) k
-behind_word ListWord k = Want (ListIn NoItem k)
-behind_word (HelperWord h) k = Want (GivenTo h NoItem k)
+abbrev pub after_word : Word → Place → State
+after_word TrueWord k = Have (JBool true) k
+after_word FalseWord k = Have (JBool false) k
+after_word ListWord k = Want (ListIn NoItem k)
+after_word (HelperWord h) k = Want (GivenTo h NoItem k)
 
 -- the word begins so
 abbrev pub begins_with : List ℕ → List ℕ → Bool
@@ -154,7 +156,7 @@ find_word [] cs none found = none
 find_word (w ∷ ws) cs none found = if bytes_eq (word_text w) cs then found w else find_word ws cs none found
 
 abbrev pub in_word : List ℕ → Place → State
-in_word cs k = find_word words cs (if list_any (λ w. begins_with (word_text w) cs) words then InWord cs k else Dead) (λ w. behind_word w k)
+in_word cs k = find_word words cs (if list_any (λ w. begins_with (word_text w) cs) words then InWord cs k else Dead) (λ w. after_word w k)
 
 abbrev pub in_keyword : List ℕ → Before → Block → State
 in_keyword cs before b =
@@ -229,7 +231,8 @@ abbrev pub no_parameter : Place → ℕ → State
 no_parameter (FirstIn k) c = if c == 41 then Known (codes "=>{") (WantStatement NoStatement (CalledIn k)) else Dead
 no_parameter _ c = Dead
 
--- what may stand where an expression is wanted besides one: the end of an empty list, the - of a negative number, and that )
+-- what may stand where an expression is wanted besides one: the end of an empty list, the - of a negative number, and
+-- that )
 abbrev pub no_expression : Place → ℕ → State
 no_expression (ListIn NoItem k) c = if c == 93 then Known (codes ")") (Have (JList NoJs) k) else Dead
 no_expression (GivenTo h NoItem k) c = on_bracket c (Have (JHelper h NoJs) k)
@@ -261,16 +264,16 @@ want k c =
     else no_expression k c)))))
 
 -- after a name, at the character that ends it
-abbrev pub behind_name : Name → NameAt → ℕ → State
-behind_name x (Variable k) c = have (JVar x) k c
-behind_name x (ConstAt before b) c = if c == 61 then Want (ConstIn before x b) else Dead
-behind_name x (LetAt before b) c = if c == 61 then Want (LetIn before x b) else Dead
-behind_name x (AssignAt before b) c = if c == 61 then Want (AssignIn before x b) else Dead
-behind_name x (LineAt before) c = if c == 61 then Want (LineIn before x) else Dead
+abbrev pub after_name : Name → NameAt → ℕ → State
+after_name x (Variable k) c = have (JVar x) k c
+after_name x (ConstAt before b) c = if c == 61 then Want (ConstIn before x b) else Dead
+after_name x (LetAt before b) c = if c == 61 then Want (LetIn before x b) else Dead
+after_name x (AssignAt before b) c = if c == 61 then Want (AssignIn before x b) else Dead
+after_name x (LineAt before) c = if c == 61 then Want (LineIn before x) else Dead
 
 abbrev pub end_name : Found → NameAt → ℕ → State
 end_name Not a c = Dead
-end_name (Name_is x) a c = behind_name x a c
+end_name (Name_is x) a c = after_name x a c
 
 abbrev pub in_name : Begun → NameAt → ℕ → State
 in_name n a c = if is_run c then name_at (name_step n c) a else end_name (name_of n) a c
@@ -282,13 +285,13 @@ abbrev pub in_negative : ℕ → Place → ℕ → State
 in_negative n k c = if is_digit c then negative_at (n * 10 + (c - 48)) k else on_bracket c (Have (JInt (minus n)) k)
 
 -- after the closing quote of a text
-abbrev pub behind_text : List ℕ → TextAt → State
-behind_text us (Literal k) = Have (JText us) k
-behind_text us (Key before (Value k)) = Known (codes ":") (Want (FieldIn before us k))
-behind_text us (Key before (Ports f)) = Known (codes ":") (Want (PortIn f before us))
-behind_text us (PropertyOf e k) = Known (codes "]") (Have (JProperty e us) k)
-behind_text us (ModuleIn before) = Known (codes ",\"program\":") (Want (MainIn before us))
-behind_text us (OutIn f ins outs) = Known (codes ":0") (HaveOut f ins us outs)
+abbrev pub after_text : List ℕ → TextAt → State
+after_text us (Literal k) = Have (JText us) k
+after_text us (Key before (Value k)) = Known (codes ":") (Want (FieldIn before us k))
+after_text us (Key before (Ports f)) = Known (codes ":") (Want (PortIn f before us))
+after_text us (PropertyOf e k) = Known (codes "]") (Have (JProperty e us) k)
+after_text us (ModuleIn before) = Known (codes ",\"program\":") (Want (MainIn before us))
+after_text us (OutIn f ins outs) = Known (codes ":0") (HaveOut f ins us outs)
 
 -- a character that stands for itself in a text
 abbrev pub is_plain : ℕ → Bool
@@ -296,7 +299,7 @@ is_plain c = nat_le 32 c && nat_le c 126
 
 abbrev pub in_text : List ℕ → TextAt → ℕ → State
 in_text us a c =
-    if c == 34 then behind_text us a else (if c == 92 then InEscape us a else (if is_plain c then InText (us ++ c ∷ []) a else Dead))
+    if c == 34 then after_text us a else (if c == 92 then InEscape us a else (if is_plain c then InText (us ++ c ∷ []) a else Dead))
 
 abbrev pub in_escape : List ℕ → TextAt → ℕ → State
 in_escape us a c =

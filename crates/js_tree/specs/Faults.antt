@@ -1,5 +1,6 @@
--- Where bytes stop to be the text of a program: the end of the longest part of them, from their start, that begins some text. A text is here that
--- of any program whose names and texts can be spelled and whose integers are exact, whether its names are bound or not.
+-- Where bytes stop to be the text of a program: the end of the longest part of them, from their start, that begins some
+-- text. A text is here that of any program whose names and texts can be spelled and whose integers are exact, whether
+-- its names are bound or not.
 use Rattle.std.specs.Prelude.{◌≡◌, ℕ, ◌+◌, List, [], ◌∷◌, ◌++◌, true, if◌then◌else◌, ◌==◌}
 use Rattle.js_tree.specs.Tree.{Program}
 use Rattle.js_tree.specs.Text.{JsText}
@@ -21,9 +22,9 @@ abbrev pub next_place : ℕ → Place → Place
 next_place c p = if c == 10 then record { row = p.row + 1; column = 1 } else record { row = p.row; column = p.column + 1 }
 
 -- the place after the bytes, from that before them; the bytes that begin a text are all of ASCII, a code point each
-abbrev pub place_behind : Place → List ℕ → Place
-place_behind p [] = p
-place_behind p (c ∷ cs) = place_behind (next_place c p) cs
+abbrev pub place_after : Place → List ℕ → Place
+place_after p [] = p
+place_after p (c ∷ cs) = place_after (next_place c p) cs
 
 -- the place is where the bytes stop to be a text
 pub record IsFaultAt (bytes : List ℕ) (place : Place) : Type 0 where
@@ -32,7 +33,7 @@ pub record IsFaultAt (bytes : List ℕ) (place : Place) : Type 0 where
   pub whole : bytes ≡ front ++ rest
   pub begins : Begins front
   pub longest : (c : ℕ) (behind : List ℕ) → rest ≡ c ∷ behind → Begins (front ++ c ∷ []) → ⊥
-  pub behind : place_behind (record { row = 1; column = 1 }) front ≡ place
+  pub behind : place_after (record { row = 1; column = 1 }) front ≡ place
 
 -- some place is
 pub record Stops (bytes : List ℕ) : Type 0 where

@@ -1,4 +1,4 @@
--- The names of a program, read character by character: what the characters so far have come to, and where one more leads.
+-- The names of a program, read character by character: the state after the characters so far, and where one more leads.
 use Rattle.std.specs.Prelude.{ℕ, zero, suc, ◌+◌, ◌-◌, ◌*◌, ◌/◌, ◌%◌, ◌^◌, List, [], ◌∷◌, ◌++◌, Bool, true, false, ◌&&◌}
 use Rattle.std.specs.Prelude.{◌||◌, ◌==◌, nat_le, nat_lt, if◌then◌else◌, decimal}
 use Rattle.js_tree.specs.Tree.{Name, Top, Local, Made}
@@ -10,8 +10,8 @@ pub data Owner : Type 0 where
   Own : Owner
   Of : List ℕ → Owner
 
--- What has been read of a name: $; $$; $$ and a number; a word; a word and $; a word, $$ and digits of base 16, so many of which are to come
--- after the next, with the number that they are; something that begins no name.
+-- What has been read of a name: $; $$; $$ and a number; a word; a word and $; a word, $$ and digits of base 16, so many
+-- of which are to come after the next, with the number that they are; something that begins no name.
 pub data Begun : Type 0 where
   OneDollar : Begun
   TwoDollars : Begun

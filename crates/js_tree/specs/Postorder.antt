@@ -1,6 +1,6 @@
--- Trees as their nodes in postorder: the parts of a node stand before it, the first of them first. What the nodes so far have come to is a list of
--- trees, the last one first: a node takes its parts from it and puts its tree on it. A part of another kind, or one that is not there, counts as
--- the number 0, as no items, or as `continue;`.
+-- Trees as their nodes in postorder: the parts of a node stand before it, the first of them first. The state after the
+-- nodes so far is a list of trees, the last one first: a node takes its parts from it and puts its tree on it. A part
+-- of another kind, or one that is not there, counts as the number 0, as no items, or as `continue;`.
 use Rattle.std.specs.Prelude.{ℕ, zero, suc, pos, List, [], ◌∷◌, take}
 use Rattle.js_tree.specs.Tree.{Name, Top, Local, Made, Operator, Helper, Js, JInt, JBool, JText, JVar, JArrow, JBlock}
 use Rattle.js_tree.specs.Tree.{JCall, JBinary, JConditional, JObject, JProperty, JList, JHelper, JsList, NoJs, MoreJs}
@@ -51,7 +51,7 @@ abbrev pub lines_then : LinesBefore → Lines → Lines
 lines_then NoLineYet ls = ls
 lines_then (LineThen before x e) ls = lines_then before (MoreLine x e ls)
 
--- what nodes come to
+-- what nodes make
 pub data Tree : Type 0 where
   Expression : Js → Tree
   ItemsOf : Items → Tree
@@ -229,7 +229,7 @@ apply (node.Node.Program name outs) ts =
       outs = outs.items;
     }) ∷ below (below (below (below ts)))
 
--- the trees that nodes come to, after those before them
+-- the trees that nodes make, after those before them
 abbrev pub build_on : List Tree → List node.Node → List Tree
 build_on ts [] = ts
 build_on ts (n ∷ ns) = build_on (apply n ts) ns

@@ -1,5 +1,5 @@
--- The conditions of the subset: names and texts that can be spelled, integers that are exact, each name bound where it is used, and a name that is
--- assigned in no function nested in its scope.
+-- The conditions of the subset: names and texts that can be spelled, integers that are exact, each name bound where it
+-- is used, and a name that is assigned in no function nested in its scope.
 use Rattle.std.specs.Prelude.{ℕ, ◌^◌, List, [], ◌∷◌, map, Bool, true, false, if◌then◌else◌, ◌&&◌, ◌||◌, not, ◌==◌}
 use Rattle.std.specs.Prelude.{nat_le, nat_lt}
 use Rattle.std.specs.List.{list_all}
@@ -93,8 +93,8 @@ assigns x (If c s t) = not (declares x s) && assigns x s || not (declares x t) &
 assigns x (While s) = not (declares x s) && assigns x s
 assigns x Continue = false
 
--- what may be done with a name: it is bound and assigned nowhere in the function that binds it; it is assigned there; it is so in a function
--- round this one; nothing binds it
+-- what may be done with a name: it is bound and assigned nowhere in the function that binds it; it is assigned there;
+-- it is so in a function round this one; nothing binds it
 pub data Use : Type 0 where
   Fixed : Use
   Changing : Use

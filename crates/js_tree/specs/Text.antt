@@ -1,5 +1,6 @@
--- JsText: which bytes are the text of a program. (ECMA-262: 12.7 names, 12.9.3 numbers, 12.9.4 texts; each construct in one spelling, without
--- blanks but those after const, let and return.) It is the fixed front, a line for each constant, the line of `_main`, and the fixed end.
+-- JsText: which bytes are the text of a program. (ECMA-262: 12.7 names, 12.9.3 numbers, 12.9.4 texts; each construct in
+-- one spelling, without blanks but those after const, let and return.) It is the fixed front, a line for each constant,
+-- the line of `_main`, and the fixed end.
 use Rattle.std.specs.Prelude.{◌≡◌, ℕ, suc, ℤ, pos, negsuc, ◌+◌, ◌/◌, ◌%◌, List, [], ◌∷◌, ◌++◌, Bool, true, false}
 use Rattle.std.specs.Prelude.{if◌then◌else◌, ◌&&◌, ◌||◌, ◌==◌, nat_le, nat_lt, codes, decimal}
 pub use Rattle.elm_base.specs.Quoted.{hex_digit, hex4, unit_text, units_text, text_text}
@@ -19,7 +20,8 @@ int_text (negsuc n) = codes "(-" ++ decimal (suc n) ++ codes ")"
 abbrev pub is_word_char : ℕ → Bool
 is_word_char c = (nat_le 65 c && nat_le c 90) || (nat_le 97 c && nat_le c 122) || (nat_le 48 c && nat_le c 57) || c == 95
 
--- a unit inside of a name: a point, which joins the names of a module, as $; any other past the characters of a word as $$ and four digits
+-- a unit inside of a name: a point, which joins the names of a module, as $; any other past the characters of a word as
+-- $$ and four digits
 abbrev pub name_unit : ℕ → List ℕ
 name_unit u = if u == 46 then 36 ∷ [] else (if is_word_char u then u ∷ [] else 36 ∷ 36 ∷ hex4 u)
 

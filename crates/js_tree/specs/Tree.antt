@@ -1,10 +1,12 @@
--- The JavaScript of an output, as plain data. (ECMA-262: 13.2 primary expressions, 13.3 member and call expressions, 13.8.1 and 13.7 + - and *,
--- 13.11 ===, 13.13 && and ||, 13.14 conditional expressions, 14.3.1 let and const, 13.15 assignment, 14.6 if, 14.7.3 while, 14.8 continue,
--- 14.10 return, 15.3 arrow functions.) An output is a line for each constant, then the line of `_main`, between two fixed texts.
+-- The JavaScript of an output, as plain data. (ECMA-262: 13.2 primary expressions, 13.3 member and call expressions,
+-- 13.8.1 and 13.7 + - and *, 13.11 ===, 13.13 && and ||, 13.14 conditional expressions, 14.3.1 let and const, 13.15
+-- assignment, 14.6 if, 14.7.3 while, 14.8 continue, 14.10 return, 15.3 arrow functions.) An output is a line for each
+-- constant, then the line of `_main`, between two fixed texts.
 use Rattle.std.specs.Prelude.{ℕ, ℤ, List, Bool, true, false, nat_eq, ◌&&◌, if◌then◌else◌}
 use Rattle.std.specs.Str.{bytes_eq}
 
--- a name: x of a module, as Main$x; a local x, as $x; one that the compiler made, by its number, as $$0. Names are lists of units.
+-- a name: x of a module, as Main$x; a local x, as $x; one that the compiler made, by its number, as $$0. Names are
+-- lists of units.
 pub data Name : Type 0 where
   Top : List ℕ → List ℕ → Name
   Local : List ℕ → Name
@@ -96,8 +98,8 @@ mutual
     NoField : Fields
     MoreField : List ℕ → Js → Fields → Fields
 
-  -- statements up to one that ends them: `const n=E;` `let n=E;` `n=E;` and what follows; `return E;` `if(E){S}else{S}` `while(true){S}`
-  -- `continue;`
+  -- statements up to one that ends them: `const n=E;` `let n=E;` `n=E;` and what follows; `return E;` `if(E){S}else{S}`
+  -- `while(true){S}` `continue;`
   pub data Stmts : Type 0 where
     Const : Name → Js → Stmts → Stmts
     Let : Name → Js → Stmts → Stmts
@@ -126,8 +128,8 @@ pub data Lines : Type 0 where
   NoLine : Lines
   MoreLine : Name → Js → Lines → Lines
 
--- A whole program: its constants; the program that `_main` holds; the name of its module; the decoder of its flags; its incoming ports with
--- their decoders; its outgoing ports.
+-- A whole program: its constants; the program that `_main` holds; the name of its module; the decoder of its flags; its
+-- incoming ports with their decoders; its outgoing ports.
 pub record Program : Type 0 where
   pub lines : Lines
   pub main : Js

@@ -1,5 +1,5 @@
-//! The nodes of trees of an output, in postorder. (ECMA-262: 13.2, 13.3, 13.7, 13.8.1, 13.11, 13.13, 13.14, 13.15, 14.3.1, 14.6, 14.7.3, 14.8,
-//! 14.10, 15.3.)
+//! The nodes of trees of an output, in postorder. (ECMA-262: 13.2, 13.3, 13.7, 13.8.1, 13.11, 13.13, 13.14, 13.15,
+//! 14.3.1, 14.6, 14.7.3, 14.8, 14.10, 15.3.)
 
 use elm_base::units::Units;
 
@@ -170,7 +170,7 @@ pub enum Node {
     NoLine,
     /// A constant's line, of the lines before it and its expression.
     Line(Name),
-    /// A program by the name of its module and its outgoing ports, of the lines, the program that `_main` holds, the decoder of its flags, and
-    /// the incoming ports as fields.
+    /// A program by the name of its module and its outgoing ports, of the lines, the program that `_main` holds, the
+    /// decoder of its flags, and the incoming ports as fields.
     Program { name: Units, outs: Vec<Units> },
 }

@@ -11,7 +11,8 @@ use std::marker::Model;
 
 /// Trees, as their nodes in postorder. A contract sees them as the list of the nodes.
 ///
-/// A place is a number of nodes from the first on; what these come to, the trees up to it, of which the last one ends there.
+/// A place is a number of nodes from the first on; what these make is the trees up to it, of which the last one ends
+/// there.
 #[derive(Debug, Drop)]
 pub struct Trees {
     nodes: Vec<Node>,

@@ -9,8 +9,8 @@ use Rattle.module_files.specs.declared.places.Place.TheVariants as program_place
 use Rattle.module_files.specs.declared.places.ReadError.{ReadError}
 use Rattle.module_files.specs.declared.places.ReadError.TheVariants.{File, NoMemory}
 
--- no source directory has the file of the module, or one has it at this path, or more than one has it. The text of a file is missing if
--- it is over the limit
+-- no source directory has the file of the module, or one has it at this path, or more than one has it. The text of a
+-- file is missing if it is over the limit
 pub data Place : Type 0 where
   Nowhere : Place
   At : List ℕ → Option (List ℕ) → Place

@@ -48,8 +48,8 @@ impl From<AllocError> for ProjectError {
 /// The project that a file `elm.json` of these bytes describes.
 ///
 /// The fault is `NotJson` where the file has more than 1,048,576 bytes or is no JSON text. Otherwise it is
-/// `NotApplication` where `"type"` is not `"application"`, where `"source-directories"` is not a list of relative paths or
-/// an empty one, and where `"elm-version"` is neither missing nor a text. Otherwise it is `OtherVersion` where
+/// `NotApplication` where `"type"` is not `"application"`, where `"source-directories"` is not a list of relative paths
+/// or an empty one, and where `"elm-version"` is neither missing nor a text. Otherwise it is `OtherVersion` where
 /// `"elm-version"` is not `"0.19.1"`. Any other error means that memory ran out.
 pub fn read(alloc: Global, bytes: &[u8]) -> Result<Project, ProjectError>
     ensures project { IfOk result (λ project. plain.project_of bytes.now ≡ plain.directories (directories_of project)) }

@@ -1,4 +1,5 @@
-//! Tests of the crates that find the modules of a project: its file, its paths, where its modules stand, and their order.
+//! Tests of the crates that find the modules of a project: its file, its paths, where its modules stand, and their
+//! order.
 #![tactic(auto)]
 
 #[cfg(test)]

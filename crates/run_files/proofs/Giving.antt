@@ -77,13 +77,13 @@ module _ {V : Type 0} (machine : Machine V) (fuel : ℕ) (inputs sends : List (L
   went : (now : Option (List ℕ)) → is_done end ≡ true → now ≡ longer old (start_text (sends, end)) → further now
   went now on text = goes_further trace trace old old (at_first trace old) behind now (start_text (sends, end)) (begin_on machine fuel inputs sends state end begun on).0 text
 
-  told_behind : (now new : Option (List ℕ)) (ended : Ended) → further now → Tells ended behind now new → Tells ended trace old new
-  told_behind now new (ended.Refused line) r t = t
-  told_behind now new ended.Ready r t = (r.ready ∙ t.0, all_put trace behind old now r new (told_text behind) refl t.1)
-  told_behind now new ended.Stopped r t = (r.ready ∙ t.0, all_put trace behind old now r new (told_text behind) refl t.1)
+  told_after : (now new : Option (List ℕ)) (ended : Ended) → further now → Tells ended behind now new → Tells ended trace old new
+  told_after now new (ended.Refused line) r t = t
+  told_after now new ended.Ready r t = (r.ready ∙ t.0, all_put trace behind old now r new (told_text behind) refl t.1)
+  told_after now new ended.Stopped r t = (r.ready ∙ t.0, all_put trace behind old now r new (told_text behind) refl t.1)
 
   pub started_told : (now new : Option (List ℕ)) (ended : Ended) → is_done end ≡ true → now ≡ longer old (start_text (sends, end)) → Tells ended behind now new → Tells ended trace old new
-  started_told now new ended on text t = told_behind now new ended (went now on text) t
+  started_told now new ended on text t = told_after now new ended (went now on text) t
 
   pub started_part : (now new : Option (List ℕ)) (n n' : ℕ) (stop : RunEnd) → is_done end ≡ true → now ≡ longer old (start_text (sends, end)) → PutsPart stop (told_text behind) now new n n' → PutsPart stop (told_text trace) old new n n'
   started_part now new n n' stop on text part = end_at_part trace behind old now (went now on text) new (told_text behind) [] n n' stop (sym (append-nil (told_text behind))) part

@@ -1,4 +1,4 @@
--- what a program's text comes to, once it was read
+-- the run of a program's text, once it was read
 pub mod Sources
 -- one input of a run of which a front part was put
 pub mod Giving

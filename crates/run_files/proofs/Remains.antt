@@ -14,9 +14,9 @@ take_front zero a b = (0, refl)
 take_front (suc n) [] b = (0, refl)
 take_front (suc n) (c ∷ a) b = let r = take_front n a b in (suc r.0, ap (λ x. c ∷ x) r.1)
 
-take_behind : (a : List ℕ) (n : ℕ) (b : List ℕ) → (m : ℕ) × (take m (a ++ b) ≡ a ++ take n b)
-take_behind [] n b = (n, refl)
-take_behind (c ∷ a) n b = let r = take_behind a n b in (suc r.0, ap (λ x. c ∷ x) r.1)
+take_after : (a : List ℕ) (n : ℕ) (b : List ℕ) → (m : ℕ) × (take m (a ++ b) ≡ a ++ take n b)
+take_after [] n b = (n, refl)
+take_after (c ∷ a) n b = let r = take_after a n b in (suc r.0, ap (λ x. c ∷ x) r.1)
 
 take_all : (a : List ℕ) → take (length a) a ≡ a
 take_all [] = refl
@@ -36,9 +36,9 @@ nothing old new piece e = (0, e ∙ sym (longer_nil old))
 front_part : (old new : Option (List ℕ)) (a b : List ℕ) → LongerByPart old a new → LongerByPart old (a ++ b) new
 front_part old new a b h = let r = take_front h.0 a b in (r.0, h.1 ∙ sym (ap (λ x. longer old x) r.1))
 
-behind_part : (old mid new : Option (List ℕ)) (a b : List ℕ) → mid ≡ longer old a → LongerByPart mid b new → LongerByPart old (a ++ b) new
-behind_part old mid new a b e h =
-    let r = take_behind a h.0 b in
+after_part : (old mid new : Option (List ℕ)) (a b : List ℕ) → mid ≡ longer old a → LongerByPart mid b new → LongerByPart old (a ++ b) new
+after_part old mid new a b e h =
+    let r = take_after a h.0 b in
     (r.0, h.1 ∙ ap (λ x. longer x (take h.0 b)) e ∙ longer_twice old a (take h.0 b) ∙ sym (ap (λ x. longer old x) r.1))
 
 -- of the whole trace this one is left, once the text has grown by the rest
@@ -72,7 +72,7 @@ module _ (whole left : Trace) (old now : Option (List ℕ)) (remains : Remains w
   -- a part of the next piece
   part_put : (new : Option (List ℕ)) (piece more : List ℕ) → told_text left ≡ piece ++ more → LongerByPart now piece new → LongerByPart old (told_text whole) new
   part_put new piece more text part =
-      let all = behind_part old now new remains.front (piece ++ more) remains.put (front_part now new piece more part) in
+      let all = after_part old now new remains.front (piece ++ more) remains.put (front_part now new piece more part) in
       (all.0, all.1 ∙ sym (ap (λ x. longer old (take all.0 x)) (remains.text ∙ ap (λ x. remains.front ++ x) text)))
 
   pub end_at_part : (new : Option (List ℕ)) (piece more : List ℕ) (n m : ℕ) (end : RunEnd) → told_text left ≡ piece ++ more → PutsPart end piece now new n m → PutsPart end (told_text whole) old new n m

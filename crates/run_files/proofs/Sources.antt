@@ -1,4 +1,4 @@
--- What a program's text comes to, once it was read.
+-- The run of a program's text, once it was read.
 use Rattle.std.proofs.Common.{◌≡◌, ℕ, true, List, [], Option, Some, None, IfSome, refl, sym, ap, ◌∙◌, subst, inl, inr}
 use Rattle.std.proofs.lemmas.Option.{IfSome_then}
 use Rattle.std.specs.declared.vec.Vec.{Vec}

@@ -62,13 +62,13 @@ inputs_from ports row flags [] = Inputs flags []
 inputs_from ports row flags (line ∷ lines) = at_line ports row line (input_of line) (inputs_from ports (row + 1) flags lines)
 
 -- the first line gives the flags
-abbrev pub behind_flags : List (List ℕ) → Option Wire → List (List ℕ) → Given
-behind_flags ports None lines = BadLine 1
-behind_flags ports (Some flags) lines = inputs_from ports 2 flags lines
+abbrev pub after_flags : List (List ℕ) → Option Wire → List (List ℕ) → Given
+after_flags ports None lines = BadLine 1
+after_flags ports (Some flags) lines = inputs_from ports 2 flags lines
 
 abbrev pub given_lines : List (List ℕ) → List (List ℕ) → Given
 given_lines ports [] = BadLine 1
-given_lines ports (line ∷ lines) = behind_flags ports (from_bytes line) lines
+given_lines ports (line ∷ lines) = after_flags ports (from_bytes line) lines
 
 -- what the text gives, at the incoming ports with these names
 abbrev pub given : List (List ℕ) → List ℕ → Given

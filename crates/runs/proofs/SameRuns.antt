@@ -44,8 +44,8 @@ abbrev Soon : Trace → (ℕ → ℕ → Trace) → Type 0
 Soon a b = (c : ℕ) × ((m r : ℕ) → c ≤ r → r ≤ m → Covers a (b m r))
 
 -- after a stretch
-soon_behind : {B : Type 0} {f : Run B} (l : ℕ → B → ℕ → Trace) (a : Trace) (t : ℕ → Metered B) → Spends f (λ _ m. t m) → Soon a (λ m r. go_on (t r) (l m)) → Soon a (λ m r. go_on (f m r) (l m))
-soon_behind l a t p s = (
+soon_after : {B : Type 0} {f : Run B} (l : ℕ → B → ℕ → Trace) (a : Trace) (t : ℕ → Metered B) → Spends f (λ _ m. t m) → Soon a (λ m r. go_on (t r) (l m)) → Soon a (λ m r. go_on (f m r) (l m))
+soon_after l a t p s = (
   p.cost + s.0,
   λ m r enough within.
       let e = pay_left p.cost r t (omega arith) in
@@ -54,15 +54,15 @@ soon_behind l a t p s = (
 
 -- one step, and what follows from its value
 soon_on : {A B : Type 0} {S : A → B → Type 0} {n : ℕ} {o : End A} {f : Run B} (left : ℕ) (k : A → ℕ → Trace) (l : ℕ → B → ℕ → Trace) → Follows S n o f → IsClaimed (go_on (with_budget o left) k) → ((a : A) (b : B) → S a b → IsClaimed (k a left) → Soon (k a left) (λ m r. l m b r)) → Soon (go_on (with_budget o left) k) (λ m r. go_on (f m r) (l m))
-soon_on left k l (gives {a} b s p) claimed more = soon_behind l (k a left) (λ m. MVal b m) p (more a b s claimed)
-soon_on left k l (crashes {t} p) claimed more = soon_behind l (Ends (Crashed t)) (λ _. MCrashed t) p (zero, λ m r enough within. same_last)
+soon_on left k l (gives {a} b s p) claimed more = soon_after l (k a left) (λ m. MVal b m) p (more a b s claimed)
+soon_on left k l (crashes {t} p) claimed more = soon_after l (Ends (Crashed t)) (λ _. MCrashed t) p (zero, λ m r enough within. same_last)
 soon_on left k l (starves h) claimed more = (zero, λ m r enough within. cut_off)
 soon_on left k l unclaimed_unsafe claimed more = absurd claimed
 soon_on left k l unclaimed_stuck claimed more = absurd claimed
 
 -- the other way after a stretch, with as much fuel
-back_behind : {B : Type 0} {f : Run B} (l : B → ℕ → Trace) (a : Trace) (t : ℕ → Metered B) (m r : ℕ) → r ≤ m → Spends f (λ _ m. t m) → ((r' : ℕ) → r' ≤ m → Covers (go_on (t r') l) a) → Covers (go_on (f m r) l) a
-back_behind l a t m r within p covers = subst (λ o. Covers (go_on o l) a) (sym (p.by m r within)) (go (pay_left_or_out p.cost r t))
+back_after : {B : Type 0} {f : Run B} (l : B → ℕ → Trace) (a : Trace) (t : ℕ → Metered B) (m r : ℕ) → r ≤ m → Spends f (λ _ m. t m) → ((r' : ℕ) → r' ≤ m → Covers (go_on (t r') l) a) → Covers (go_on (f m r) l) a
+back_after l a t m r within p covers = subst (λ o. Covers (go_on o l) a) (sym (p.by m r within)) (go (pay_left_or_out p.cost r t))
   where
     go : (pay p.cost r t ≡ MOutOfFuel) ⊎ ((r' : ℕ) × (r' ≤ r) × (pay p.cost r t ≡ t r')) → Covers (go_on (pay p.cost r t) l) a
     go (inl e) = subst (λ o. Covers (go_on o l) a) (sym e) cut_off
@@ -70,8 +70,8 @@ back_behind l a t m r within p covers = subst (λ o. Covers (go_on o l) a) (sym 
 
 -- one step the other way, and what follows from its value
 back_on : {A B : Type 0} {S : A → B → Type 0} {m : ℕ} {o : End A} {f : Run B} (left r : ℕ) (k : A → ℕ → Trace) (l : B → ℕ → Trace) → r ≤ m → Follows S m o f → IsClaimed (go_on (with_budget o left) k) → ((a : A) (b : B) (r' : ℕ) → r' ≤ m → S a b → IsClaimed (k a left) → Covers (l b r') (k a left)) → Covers (go_on (f m r) l) (go_on (with_budget o left) k)
-back_on {m} left r k l within (gives {a} b s p) claimed more = back_behind l (k a left) (λ m. MVal b m) m r within p (λ r' le. more a b r' le s claimed)
-back_on {m} left r k l within (crashes {t} p) claimed more = back_behind l (Ends (Crashed t)) (λ _. MCrashed t) m r within p (λ r' le. same_last)
+back_on {m} left r k l within (gives {a} b s p) claimed more = back_after l (k a left) (λ m. MVal b m) m r within p (λ r' le. more a b r' le s claimed)
+back_on {m} left r k l within (crashes {t} p) claimed more = back_after l (Ends (Crashed t)) (λ _. MCrashed t) m r within p (λ r' le. same_last)
 back_on {m} left r k l within (starves h) claimed more = subst (λ o. Covers (go_on o l) (Ends OutOfFuel)) (sym (h m r within within)) cut_off
 back_on left r k l within unclaimed_unsafe claimed more = absurd claimed
 back_on left r k l within unclaimed_stuck claimed more = absurd claimed

@@ -101,17 +101,17 @@ follows_then go h unclaimed_unsafe next = unclaimed_unsafe
 follows_then go h unclaimed_stuck next = unclaimed_stuck
 
 -- after a call, whose body has one unit of fuel less
-pub follows_behind : {A B : Type 0} {R : A → B → Type 0} {n : ℕ} {o : End A} {f : Run B} → Follows R n o f → Follows R (suc n) o (behind f)
-follows_behind (gives b r p) = gives b r (spends_call (λ m. MVal b m) p)
-follows_behind (crashes {t} p) = crashes (spends_call (λ _. MCrashed t) p)
-follows_behind {n} (starves {f} h) = starves go
+pub follows_call : {A B : Type 0} {R : A → B → Type 0} {n : ℕ} {o : End A} {f : Run B} → Follows R n o f → Follows R (suc n) o (behind f)
+follows_call (gives b r p) = gives b r (spends_call (λ m. MVal b m) p)
+follows_call (crashes {t} p) = crashes (spends_call (λ _. MCrashed t) p)
+follows_call {n} (starves {f} h) = starves go
   where
     go : (b m : ℕ) → m ≤ b → m ≤ suc n → behind f b m ≡ MOutOfFuel
     go zero m le ln = refl
     go (suc b) zero le ln = refl
     go (suc b) (suc m) le ln = h b m (omega arith) (omega arith)
-follows_behind unclaimed_unsafe = unclaimed_unsafe
-follows_behind unclaimed_stuck = unclaimed_stuck
+follows_call unclaimed_unsafe = unclaimed_unsafe
+follows_call unclaimed_stuck = unclaimed_stuck
 
 -- an end follows itself, and takes nothing of the budget
 pub follows_same_end : {A : Type 0} {n : ℕ} (o : End A) → Follows (λ (a : A) (b : A). a ≡ b) n o (λ _ m. with_budget o m)

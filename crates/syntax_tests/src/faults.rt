@@ -1,6 +1,6 @@
 use elm_base::fault::Code;
 use elm_base::position::Pos;
-use elm_lexer::{TextError, behind};
+use elm_lexer::{TextError, place_after};
 use elm_parser::parse_text;
 use std::alloc::{AllocError, Global};
 use std::process::Abort;
@@ -82,7 +82,7 @@ fn of_depth(rt: HostRuntime) -> Result<(), Fail> {
 fn ends_of_texts(rt: HostRuntime) {
     let start = Pos { row: 1, column: 1 };
     assert_eq!(rt;
-        behind(start, "\u{e9}\nab".as_bytes()),
+        place_after(start, "\u{e9}\nab".as_bytes()),
         Pos { row: 2, column: 3 }
     );
 }

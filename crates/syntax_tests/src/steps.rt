@@ -37,7 +37,8 @@ fn classes(rt: HostRuntime) -> Result<(), Fail> {
     let found = tokens(rt.alloc(), b"r.x - .y -1 type alias")?;
     let classes = classed(rt.alloc(), &found)?;
     let numbers = classes_of(rt.alloc(), &classes)?;
-    // A name, an access, a minus apart, an accessor, a minus before an argument, a number, `type`, and `alias` after it.
+    // A name, an access, a minus apart, an accessor, a minus before an argument, a number, `type`, and `alias` after
+    // it.
     assert!(rt; numbers.as_slice() == [0, 8, 14, 7, 13, 5, 35, 1].as_slice());
     Ok(())
 }

@@ -1,5 +1,5 @@
--- The wire value of JSON. (RFC 8259. Which numbers are whole is serde_json's: `Number` keeps what has no fraction, no exponent and fits
--- 64 bits as a whole number, and any other, -0 among them, as a float.)
+-- The wire value of JSON. (RFC 8259. Which numbers are whole is serde_json's: `Number` keeps what has no fraction, no
+-- exponent and fits 64 bits as a whole number, and any other, -0 among them, as a float.)
 use Rattle.std.specs.Prelude.{ℕ, ℤ, List, nat_le, if◌then◌else◌, Option, Some, None, option_map, option_and_then}
 use Rattle.std.specs.Ordering.{nat_cmp, match_ordering}
 use Rattle.std.specs.Cmp.Lexicographic.{slice_cmp}

@@ -44,8 +44,8 @@ abbrev pub tasks_weight : List Task → ℕ
 tasks_weight [] = 0
 tasks_weight (t ∷ ts) = task_weight t + tasks_weight ts
 
--- What is written and what is left come to the text from before, these bytes, and what was left. What is left for the bytes weighs less than
--- the weight.
+-- What is written, followed by what is left, is the text from before, these bytes, and what was left. What is left for
+-- the bytes weighs less than the weight.
 pub record Leaves (bytes : List ℕ) (weight : ℕ) (text : List ℕ) (tasks : List Task) (text_then : List ℕ) (tasks_then : List Task) : Type 0 where
   pub whole : text_then ++ left_text tasks_then ≡ text ++ (bytes ++ left_text tasks)
   pub lighter : tasks_weight tasks_then < weight + tasks_weight tasks

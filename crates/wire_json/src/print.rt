@@ -1,4 +1,5 @@
-//! The text of a wire value, printed into one buffer. What is still to be written stands on a stack of tasks, so that no value is too deep.
+//! The text of a wire value, printed into one buffer. What is still to be written stands on a stack of tasks, so that
+//! no value is too deep.
 
 ghost use Rattle.std.specs.Prelude.{◌≡◌, ◌++◌, IfOk, OnOk, map, codes};
 ghost use Rattle.wire_value.specs.View.{wire_view, wires_of};

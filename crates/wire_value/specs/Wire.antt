@@ -1,4 +1,5 @@
--- Wire values: what crosses between a program and its host, as plain data. (JSON, RFC 8259, without fractions; texts as in ECMA-262, 6.1.4.)
+-- Wire values: what crosses between a program and its host, as plain data. (JSON, RFC 8259, without fractions; texts as
+-- in ECMA-262, 6.1.4.)
 use Rattle.std.specs.Prelude.{ℤ, List, ℕ, Bool}
 
 mutual

@@ -10,4 +10,4 @@ returns-then-branch-clause-read c =
 
 pub returns-clause-refused : goal.returns-clause-refused
 returns-clause-refused c =
-    unbound_text (top (trees_of c.in_ok-trees.trees)) c.args.bytes.now c.place_behind.result c.in_ok-trees.ensures.read (sym c.in_ok-is_bound.ensures ∙ c.if-branch.false) c.place_behind.ensures
+    unbound_text (top (trees_of c.in_ok-trees.trees)) c.args.bytes.now c.place_after.result c.in_ok-trees.ensures.read (sym c.in_ok-is_bound.ensures ∙ c.if-branch.false) c.place_after.ensures

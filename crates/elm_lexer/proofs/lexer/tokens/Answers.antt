@@ -41,7 +41,7 @@ loop-rest-preserved-then-begins_gap c =
       row = grind (arith, common_steps);
       column = grind (arith, common_steps);
       count = grind (arith, common_steps);
-      cuts = gap_step c.args.text.now _ _ _ _ c.loop-rest.rest.now c.as_bytes-bytes.result.now c.in-Some.after.now _ c.range_from-rest.result.now _ c.loop-rest.invariant.cuts text same c.in-Some.ensures.gap refl refl c.range_from-rest.ensures.value c.behind-place.ensures.place;
+      cuts = gap_step c.args.text.now _ _ _ _ c.loop-rest.rest.now c.as_bytes-bytes.result.now c.in-Some.after.now _ c.range_from-rest.result.now _ c.loop-rest.invariant.cuts text same c.in-Some.ensures.gap refl refl c.range_from-rest.ensures.value c.place_after-place.ensures.place;
     }
 
 pub returns-clause-found : goal.returns-clause-found
@@ -77,7 +77,7 @@ loop-rest-preserved c =
       row = grind (arith, common_steps);
       column = grind (arith, common_steps);
       count = omega (arith, c.loop-rest.invariant.count, cut.some, cut.within, ap length c.range_from-rest-in-Token.ensures.value, length-drop {A = ℕ}, ap length c.in_ok-push-in-Token.ensures.items);
-      cuts = token_step c.args.text.now _ _ _ _ _ c.begins_gap-in-Token.result c.loop-rest.rest.now c.as_bytes-bytes.result.now _ _ _ c.in-Token.kind c.in-Token.length c.loop-rest.invariant.cuts same (sym c.if-begins_gap.ensures) first c.split_at.ensures.front c.split_at.ensures.back c.begins_gap-in-Token.ensures items c.behind-place-in-Token.ensures.place c.range_from-rest-in-Token.ensures.value;
+      cuts = token_step c.args.text.now _ _ _ _ _ c.begins_gap-in-Token.result c.loop-rest.rest.now c.as_bytes-bytes.result.now _ _ _ c.in-Token.kind c.in-Token.length c.loop-rest.invariant.cuts same (sym c.if-begins_gap.ensures) first c.split_at.ensures.front c.split_at.ensures.back c.begins_gap-in-Token.ensures items c.place_after-place-in-Token.ensures.place c.range_from-rest-in-Token.ensures.value;
     }
 
 pub returns-in-Fault-clause-fault : goal.returns-in-Fault-clause-fault

@@ -1,4 +1,5 @@
--- What the machine reads has its steps, and a fault or none (`whole_read`); what it does not read has a fault (`whole_fault`).
+-- What the machine reads has its steps, and a fault or none (`whole_read`); what it does not read has a fault
+-- (`whole_fault`).
 use Rattle.std.proofs.lemmas.List.{length-map}
 use Rattle.std.proofs.Common.{ℕ, ◌≡◌, ◌-◌, [], ◌∷◌, length, map, refl, sym, ap, subst, ◌∙◌, arith}
 use Rattle.elm_lexer.specs.View.{token_view, place_view}

@@ -1,4 +1,4 @@
--- The tasks for a program come to a good end exactly if its names are bound: `are_fine`, `program_told`, `whole`,
+-- The tasks for a program end well exactly when its names are bound: `are_fine`, `program_told`, `whole`,
 -- `program_walked`.
 use Rattle.std.proofs.Common.{◌≡◌, ◌-◌, List, [], ◌∷◌, true, sym, ap, ◌∙◌}
 use Rattle.js_tree.specs.Postorder.{Tree, expression, members, lines, top, below, trees_of, trees_at}

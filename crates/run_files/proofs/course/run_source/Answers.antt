@@ -1,4 +1,4 @@
--- What a program's text comes to, once it was read: `run_of_text`, `stop_of_text`, `refused_text`.
+-- The run of a program's text, once it was read: `run_of_text`, `stop_of_text`, `refused_text`.
 use Rattle.std.proofs.Common.{subst}
 use Rattle.std.proofs.lemmas.Result.{IfOk-weaker, IfErr-weaker}
 use Rattle.js_reader.specs.Read.{IsRefused, place_view}

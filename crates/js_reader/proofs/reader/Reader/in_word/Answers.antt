@@ -12,7 +12,7 @@ returns c =
     let k = place_of c.args.self.now.frames c.args.self.now.entry (trees_in c.args.self.now) in
     let word : c.push.new.self.items ≡ cs = c.in_ok-push.ensures.items in
     let seen : c.deref.result.now ≡ cs = c.deref.ensures.value ∙ word in
-    let found : machine.Word → machine.State = λ w. machine.behind_word w k in
+    let found : machine.Word → machine.State = λ w. machine.after_word w k in
     on_ok_weaker c.at_word.result
     (λ e. e ∙ (ap (λ (ds : List ℕ). found_word c.find_word-found.result (begun_word ds k) found) word
     ∙ (sym (c.find_word-found.ensures (begun_word cs k) found) ∙ ap (λ (ds : List ℕ). machine.find_word machine.words ds (begun_word cs k) found) seen)))
