@@ -88,8 +88,8 @@ pub fn find<F: Files>(
     }
 }
 
-/// The file at a path, if there is one.
-fn read<F: Files>(files: &mut F, path: String) -> Result<Option<Source>, ReadError>
+/// The file at a path, if there is one. The error is the path, at which the call on `files` failed, or out of memory.
+pub fn read<F: Files>(files: &mut F, path: String) -> Result<Option<Source>, ReadError>
     requires { NoneFull (F.faults files.old) }
     ensures file { IfOk result (λ file. IfSome (F.tree files.old) (λ tree.
         is_some file ≡ is_some (tree (string_bytes path)))) }

@@ -1,0 +1,8 @@
+-- where groups have an order, it is the one that is computed
+pub mod Computed
+-- what is computed of reaching is what uses lead to
+pub mod Reaching
+-- one more group is told
+pub mod Telling
+-- members of groups and of uses are places of definitions
+pub mod Within

@@ -1,0 +1,66 @@
+//! Pieces of patterns.
+
+ghost use Rattle.std.specs.Prelude.{◌≡◌, map, IfOk};
+ghost use Rattle.elm_tree.specs.View.{token_view, place_view, words_view};
+ghost use Rattle.elm_tree.specs.Turns.{tokens_view};
+ghost use Rattle.elm_canon.specs.Tree as canon;
+ghost use Rattle.elm_canon.specs.View.{pattern_view, patterns_view};
+ghost use Rattle.canon_env.specs.Imports.{name_of};
+ghost use Rattle.canon_sites.specs.Patterns as spec;
+
+use canon_env::finding::place_at;
+use canon_env::import::word_name;
+use elm_canon::tree::Pattern;
+use elm_lexer::token::{Kind, Token};
+use elm_names::name::Name;
+use elm_tree::tree::Word;
+use std::alloc::{AllocError, Global};
+
+/// The kind of the token that a word is. Past the tokens stands an empty name.
+pub(crate) fn kind_at(tokens: &[Token<'_>], word: Word) -> Kind
+    ensures { result ≡ (token_view (tokens_view tokens.now) word).kind }
+{
+    match tokens.get(word.index as usize) {
+        Some(token) => token.kind,
+        None => Kind::LowerName,
+    }
+}
+
+/// A pattern that begins at a word.
+pub(crate) fn located(
+    alloc: Global,
+    tokens: &[Token<'_>],
+    first: Word,
+    pattern: Pattern,
+) -> Result<Pattern, AllocError>
+    ensures { IfOk result (λ p. pattern_view p
+        ≡ canon.LocatedPattern (place_view (tokens_view tokens.now) first) (pattern_view pattern)) }
+{
+    Ok(Pattern::Located(place_at(tokens, first), Box::new(alloc, pattern)?))
+}
+
+/// The names that words spell.
+pub(crate) fn names_of(
+    alloc: Global,
+    tokens: &[Token<'_>],
+    words: &[Word],
+) -> Result<Vec<Name>, AllocError>
+    ensures { IfOk result (λ v. v.items ≡ map name_of (words_view (tokens_view tokens.now) words.now)) }
+{
+    let mut names = Vec::new(alloc);
+    for word in words {
+        names.push(word_name(alloc, tokens, *word)?)?;
+    }
+    Ok(names)
+}
+
+/// Items before the rest of a list, which is the last part.
+pub(crate) fn items(alloc: Global, parts: Vec<Pattern>) -> Result<Pattern, AllocError>
+    ensures { IfOk result (λ p. pattern_view p ≡ spec.items_of (patterns_view parts.items)) }
+{
+    let mut parts = parts;
+    match parts.pop() {
+        Some(rest) => Ok(Pattern::Items(parts, Box::new(alloc, rest)?)),
+        None => Ok(Pattern::Anything),
+    }
+}

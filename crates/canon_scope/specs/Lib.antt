@@ -1,0 +1,3 @@
+pub mod Scope
+pub mod Logs
+pub mod Longs

@@ -1,0 +1,4 @@
+-- faults in order
+pub mod Ordering
+-- names that stand twice
+pub mod Repeating

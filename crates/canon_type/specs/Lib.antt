@@ -1,0 +1,4 @@
+pub mod Shape
+pub mod Extending
+pub mod Filling
+pub mod Ports

@@ -1,0 +1,11 @@
+-- In the order of their names, by insertion: `before`, `is_order`, `sort_arranges`.
+use Rattle.std.proofs.Common.{rules}
+use Rattle.std.proofs.lemmas.List.Sorted.{answers_always}
+use Rattle.interface.specs.Interface.{value_view}
+use Rattle.interface.proofs.Arranging.{before, is_order, sort_arranges}
+use Rattle.interface.proofs.offer.sorted_values.Goals as goal
+
+pub returns : goal.returns
+returns c =
+    sort_arranges value_view (λ v. v.name) c.args.values.items c.sort_by.new.self.items (c.in_ok-sort_by.ensures.sorted (before value_view (λ v. v.name)) (is_order value_view (λ v. v.name)) (answers_always _ _ _ (λ f a r g h. search rules)))
+    (c.sort_by.ensures.stable (before value_view (λ v. v.name)) (is_order value_view (λ v. v.name)) (answers_always _ _ _ (λ f a r g h. search rules)))

@@ -1,0 +1,9 @@
+pub mod Formats
+pub mod Steps
+pub mod Shapes
+pub mod Interface
+pub mod Text
+pub mod Reading
+pub mod View
+pub mod Opened
+pub mod Examples

@@ -1,0 +1,5 @@
+pub mod Entry
+pub mod Modules
+pub mod View
+pub mod Walk
+pub mod Words
