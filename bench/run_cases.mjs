@@ -241,6 +241,7 @@ files["data/echo.js"] = echo;
 run(["echo", "echo"], ["7", "in -3", "in null", "in 5"], 6, await ran(echo, ["7", "in -3", "in null", "in 5"]));
 run(["echo", "spent"], ["7", "in 5", "in 6"], 3, ["out 7", "! out of fuel"]);
 run(["echo", "never"], ["7"], 1, ["! out of fuel"]);
+run(["echo", "none"], ["7"], 0, ["! out of fuel"]);
 
 files["args"] = words.map((word) => `${word}\n`).join("");
 files["stdout"] = expected.join("");

@@ -5,9 +5,15 @@ import vm from "node:vm";
 const [js, inputs] = process.argv.slice(2);
 const lines = readFileSync(inputs, "utf8").split("\n");
 if (lines[lines.length - 1] === "") lines.pop();
+const unit = (digits) => "\\u" + digits.toUpperCase().padStart(4, "0");
+const short = { b: "8", t: "9", n: "a", f: "c", r: "d" };
 const text = (w) => JSON.stringify(w, (k, v) => v !== null && typeof v === "object" && !Array.isArray(v)
   ? Object.fromEntries(Object.keys(v).sort().map((key) => [key, v[key]])) : v)
-  .replace(/[\u007f-\uffff]/g, (c) => "\\u" + c.charCodeAt(0).toString(16).toUpperCase().padStart(4, "0"));
+  .replace(/\\u(....)|\\(.)|[\u007f-\uffff]/g, (part, digits, mark) => {
+    if (digits) return unit(digits);
+    if (mark) return mark in short ? unit(short[mark]) : part;
+    return unit(part.charCodeAt(0).toString(16));
+  });
 const scope = {};
 const settle = () => new Promise((done) => setTimeout(done, 0));
 new vm.Script(readFileSync(js, "utf8")).runInNewContext(scope);

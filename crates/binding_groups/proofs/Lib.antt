@@ -6,3 +6,5 @@ pub mod Reaching
 pub mod Telling
 -- members of groups and of uses are places of definitions
 pub mod Within
+-- each definition stands in one group, and whether the group uses itself says whether the definition does
+pub mod Standing

@@ -1,10 +1,10 @@
 //! The groups of definitions in order, each with whether its definitions use themselves.
 
-ghost use Rattle.std.specs.Prelude.{◌≡◌, ◌^◌, ◌<◌, length, map, IfOk};
+ghost use Rattle.std.specs.Prelude.{◌≡◌, ◌^◌, ◌<◌, ℕ, length, map, IfOk};
 ghost use Rattle.std.specs.List.{All};
 ghost use Rattle.decl_groups.specs.Groups.{plain};
 ghost use Rattle.binding_groups.specs.InOrder as computed;
-ghost use Rattle.binding_groups.specs.View.{members_of, marks_of};
+ghost use Rattle.binding_groups.specs.View.{members_of, marks_of, is_marked, StandOnce, joined};
 
 use decl_groups::groups;
 use std::alloc::{AllocError, Global};
@@ -30,6 +30,9 @@ pub fn ordered_groups(alloc: Global, uses: &[Vec<u32>]) -> Result<Vec<Group>, Al
     ensures members { IfOk result (λ groups. members_of groups.items ≡ computed.ordered_groups (plain uses.now)) }
     ensures marks { IfOk result (λ groups. marks_of groups.items ≡ map (computed.is_recursive (plain uses.now)) (
         computed.ordered_groups (plain uses.now))) }
+    ensures itself { IfOk result (λ groups. (i : ℕ) → i < length uses.now
+        → is_marked groups.items i ≡ computed.uses_itself (plain uses.now) i) }
+    ensures once { IfOk result (λ groups. StandOnce (joined (members_of groups.items))) }
 {
     let order = groups(alloc, uses)?;
     let mut told = Vec::with_capacity(alloc, order.len())?;

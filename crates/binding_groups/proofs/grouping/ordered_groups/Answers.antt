@@ -1,13 +1,21 @@
 -- One more group is told: `all_of`, `marks_are`. The order is the one that is computed: `is_the_order`.
-use Rattle.std.proofs.Common.{◌<◌, length, map, sym, ap, ◌∙◌, subst, arith}
+use Rattle.std.proofs.lemmas.List.{length-map}
+use Rattle.std.proofs.Common.{◌<◌, [], length, map, sym, ap, ◌∙◌, subst, arith}
 use Rattle.std.specs.List.{All}
 use Rattle.decl_groups.specs.Groups.{plain}
 use Rattle.binding_groups.specs.InOrder as computed
 use Rattle.binding_groups.proofs.Computed.{is_the_order}
+use Rattle.binding_groups.proofs.Standing.{once_told, itself_told}
+use Rattle.binding_groups.specs.View.{members_of}
+use Rattle.decl_groups.specs.Groups.{IsOrder}
 use Rattle.binding_groups.proofs.Telling.{none_told, no_marks, all_of, marks_are, of_first, of_rest, all_told}
 use Rattle.binding_groups.specs.declared.grouping.Group.{Group}
 use Rattle.binding_groups.proofs.Within.{members_within, uses_within}
+use Rattle.std.proofs.Common.{ℕ, Vec, Global}
 use Rattle.binding_groups.proofs.grouping.ordered_groups.Goals as goal
+
+abbrev Row : Type 0
+Row = Vec ℕ Global
 
 pub loop-members-init : goal.loop-members-init
 loop-members-init c =
@@ -57,3 +65,26 @@ returns-clause-marks c =
     ∙ ap (map (computed.is_recursive (plain uses)))
     (all_told c.loop-members.told.items left.items (plain c.into_iter-members-iterator.result.rest.items) c.loop-members.invariant.all (omega (arith, left.ok, c.in-None.ensures.steps.0))
     ∙ ap plain given ∙ sym (is_the_order (plain uses) (uses_within uses c.requires.places) (plain c.in_ok-order.order.items) c.in_ok-order.ensures))
+
+pub returns-clause-itself : goal.returns-clause-itself
+returns-clause-itself c = λ i l.
+    let uses = c.args.uses.now in
+    let left = c.loop-members.members-iterator.rest in
+    let given = c.into_iter-members-iterator.ensures.into_iter_gives.0 in
+    let same =
+    all_told c.loop-members.told.items left.items (plain c.into_iter-members-iterator.result.rest.items) c.loop-members.invariant.all (omega (arith, left.ok, c.in-None.ensures.steps.0))
+    ∙ ap plain given in
+    itself_told (plain uses) (uses_within uses c.requires.places) c.loop-members.told.items c.loop-members.invariant.marks
+    (subst (IsOrder (plain uses) []) (sym same) c.in_ok-order.ensures) i
+    (omega (arith, l, length-map uses (λ (x : Row). x.items)))
+
+pub returns-clause-once : goal.returns-clause-once
+returns-clause-once c =
+    let uses = c.args.uses.now in
+    let left = c.loop-members.members-iterator.rest in
+    let given = c.into_iter-members-iterator.ensures.into_iter_gives.0 in
+    let same =
+    all_told c.loop-members.told.items left.items (plain c.into_iter-members-iterator.result.rest.items) c.loop-members.invariant.all (omega (arith, left.ok, c.in-None.ensures.steps.0))
+    ∙ ap plain given in
+    once_told (plain uses) (members_of c.loop-members.told.items)
+    (subst (IsOrder (plain uses) []) (sym same) c.in_ok-order.ensures)

@@ -1,0 +1,68 @@
+-- By whether there are as many arguments as parameters: `right_number`, `wrong_number`.
+use Rattle.std.proofs.Common.{length, ap, ◌∙◌, arith}
+use Rattle.std.proofs.lemmas.Result.{IfOk-weaker, on_ok_weaker}
+use Rattle.elm_tree.specs.View.{long_view}
+use Rattle.elm_tree.specs.Turns.{tokens_view}
+use Rattle.elm_canon.specs.Tree as plain
+use Rattle.elm_canon.specs.View.{types_view}
+use Rattle.elm_canon.proofs.Views.{named_type}
+use Rattle.canon_env.specs.Shown.{type_meaning_view}
+use Rattle.canon_annotation.proofs.Meanings.{right_number, wrong_number, wrong_means, wrong_faults, union_means, on_ok}
+use Rattle.canon_annotation.proofs.Meanings.{union_faults, alias_means, alias_faults}
+use Rattle.canon_annotation.proofs.named.of_meaning.Goals as goal
+
+pub returns-then-parameters-len-clause-meaning : goal.returns-then-parameters-len-clause-meaning
+returns-then-parameters-len-clause-meaning c =
+    let m = type_meaning_view c.args.meant.now.meaning in
+    let ts = types_view c.args.arguments.items in
+    IfOk-weaker c.blank.result _ _
+    (λ t e. wrong_means c.args.name c.args.meant.now.home m ts _
+    (wrong_number m c.args.arguments.items (λ same. omega (arith, ap length c.parameters.ensures))) e)
+    c.blank.ensures
+
+pub returns-then-parameters-len-clause-faults : goal.returns-then-parameters-len-clause-faults
+returns-then-parameters-len-clause-faults c =
+    let m = type_meaning_view c.args.meant.now.meaning in
+    on_ok c.blank.result
+    (wrong_faults (long_view (tokens_view c.args.tokens.now) c.args.word) m (types_view c.args.arguments.items)
+    c.args.findings.now.items c.push.new.self.items c.in_ok-finding_long.field-0
+    (wrong_number m c.args.arguments.items (λ same. omega (arith, ap length c.parameters.ensures)))
+    c.in_ok-push.ensures.items c.in_ok-finding_long.ensures)
+
+pub returns-in_ok-clone-in-Union-clause-meaning : goal.returns-in_ok-clone-in-Union-clause-meaning
+returns-in_ok-clone-in-Union-clause-meaning c =
+    let k = c.args.meant.now.meaning in
+    let ts = types_view c.args.arguments.items in
+    union_means c.args.name c.args.meant.now.home (long_view (tokens_view c.args.tokens.now) c.args.word) k ts
+    c.in-Union.field-0 _ c.in-Union.is
+    (right_number (type_meaning_view k) c.args.arguments.items (omega (arith, ap length c.parameters.ensures)))
+    (named_type c.in_ok-clone-in-Union.field-0 c.args.name c.args.arguments
+    ∙ ap (λ z. plain.NamedType z c.args.name ts) c.in_ok-clone-in-Union.ensures.cases)
+
+pub returns-in_ok-clone-in-Union-clause-faults : goal.returns-in_ok-clone-in-Union-clause-faults
+returns-in_ok-clone-in-Union-clause-faults c =
+    let k = c.args.meant.now.meaning in
+    let ts = types_view c.args.arguments.items in
+    union_faults c.args.name c.args.meant.now.home (long_view (tokens_view c.args.tokens.now) c.args.word) k ts
+    c.in-Union.field-0 c.args.findings.now.items c.in-Union.is
+    (right_number (type_meaning_view k) c.args.arguments.items (omega (arith, ap length c.parameters.ensures)))
+
+pub returns-in-Alias-clause-meaning : goal.returns-in-Alias-clause-meaning
+returns-in-Alias-clause-meaning c =
+    let k = c.args.meant.now.meaning in
+    let ts = types_view c.args.arguments.items in
+    IfOk-weaker c.of_alias.result _ _
+    (λ t e. alias_means c.args.name c.args.meant.now.home (long_view (tokens_view c.args.tokens.now) c.args.word) k ts
+    c.in-Alias.alias c.deref.result.now _ c.in-Alias.is c.deref.ensures
+    (right_number (type_meaning_view k) c.args.arguments.items (omega (arith, ap length c.parameters.ensures))) e)
+    c.of_alias.ensures.meaning
+
+pub returns-in-Alias-clause-faults : goal.returns-in-Alias-clause-faults
+returns-in-Alias-clause-faults c =
+    let k = c.args.meant.now.meaning in
+    let ts = types_view c.args.arguments.items in
+    on_ok_weaker c.of_alias.result
+    (λ e. alias_faults c.args.name c.args.meant.now.home (long_view (tokens_view c.args.tokens.now) c.args.word) k ts
+    c.in-Alias.alias c.deref.result.now c.args.findings.now.items _ c.in-Alias.is c.deref.ensures
+    (right_number (type_meaning_view k) c.args.arguments.items (omega (arith, ap length c.parameters.ensures))) e)
+    c.of_alias.ensures.faults

@@ -1,0 +1,5 @@
+//! What written types mean.
+#![tactic(auto)]
+
+pub mod annotation;
+mod named;

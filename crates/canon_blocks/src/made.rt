@@ -1,0 +1,22 @@
+//! Definitions, as they go into groups.
+
+use elm_canon::tree::{Expr, Pattern, Title};
+
+/// What a definition means.
+#[derive(Drop)]
+pub enum Made {
+    /// An annotation, which the definition after it keeps.
+    Nothing,
+    /// A function, with its parameters as they are written. If there are none, the body is a lambda.
+    Function(Title, Vec<Pattern>, Expr),
+    Constant(Title, Expr),
+    /// A pattern, and what it takes apart.
+    Parts(Pattern, Expr),
+}
+
+/// The definitions of a block: for each the places of those that it uses, and what it means.
+#[derive(Drop)]
+pub struct Block {
+    pub uses: Vec<Vec<u32>>,
+    pub made: Vec<Made>,
+}

@@ -1,0 +1,5 @@
+pub mod Operators
+pub mod Callees
+pub mod Calls
+pub mod Chains
+pub mod Examples

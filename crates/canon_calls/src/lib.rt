@@ -1,0 +1,7 @@
+//! Calls: functions with their arguments, and chains of operators.
+#![tactic(auto)]
+
+pub mod callee;
+pub mod chain;
+pub mod laws;
+pub mod operators;

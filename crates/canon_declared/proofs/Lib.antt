@@ -1,0 +1,2 @@
+-- constructors and unions, one after the other
+pub mod Making

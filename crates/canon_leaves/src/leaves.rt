@@ -1,0 +1,102 @@
+//! Expressions of one word.
+
+ghost use Rattle.std.specs.Prelude.{◌≡◌, pos, IfOk, OnOk};
+ghost use Rattle.elm_lexer.specs.declared.token.Kind.TheVariants.{Int};
+ghost use Rattle.elm_tree.specs.View as tree_view;
+ghost use Rattle.elm_tree.specs.View.{place_view};
+ghost use Rattle.elm_tree.specs.Words.{expr_of};
+ghost use Rattle.elm_tree.specs.Turns.{tokens_view};
+ghost use Rattle.elm_canon.specs.Tree as canon;
+ghost use Rattle.elm_canon.specs.declared.tree.Literal.TheVariants as literal;
+ghost use Rattle.canon_sites.specs.Naming as naming;
+ghost use Rattle.canon_sites.specs.Naming.{IsWorld};
+ghost use Rattle.canon_scope.specs.Scope.{locals_of};
+ghost use Rattle.canon_scope.specs.Logs.{Grows};
+ghost use Rattle.canon_pattern.specs.Literals.{AreLiterals, IsSafe};
+ghost use Rattle.canon_calls.specs.Calls.{callee_view};
+ghost use Rattle.canon_leaves.specs.Exprs as spec;
+
+use crate::fields::field_name;
+use crate::uses::{maker_at, note_operator, value_at};
+use canon_calls::callee::Callee;
+use canon_calls::operators::core_function;
+use canon_env::env::World;
+use canon_env::finding::place_at;
+use canon_pattern::literal::{char_at, text_value_at};
+use canon_scope::log::Log;
+use canon_scope::scope::Scope;
+use elm_canon::tree::{Expr, Literal};
+use elm_lexer::token::{Kind, Token};
+use elm_tree::tree::Word;
+use std::alloc::{AllocError, Global};
+
+/// The kind of the token that a word is. Past the tokens stands an empty name.
+fn kind_at(tokens: &[Token<'_>], word: Word) -> Kind
+    ensures { result ≡ (tree_view.token_view (tokens_view tokens.now) word).kind }
+{
+    match tokens.get(word.index as usize) {
+        Some(token) => token.kind,
+        None => Kind::LowerName,
+    }
+}
+
+/// A number, which is safe.
+fn int_of(value: u64) -> Literal
+    requires { IsSafe (Int value) }
+    ensures { result ≡ literal.Int (pos value) }
+{
+    Literal::Int(value as i64)
+}
+
+/// A literal, where it stands.
+#[tactic(auto, using(elm_canon::proofs::Views::literal))]
+fn literal_at(
+    alloc: Global,
+    tokens: &[Token<'_>],
+    word: Word,
+    literal: Literal,
+) -> Result<Callee, AllocError>
+    ensures { IfOk result (λ c. callee_view c
+        ≡ spec.at (place_view (tokens_view tokens.now) word) (canon.Is literal)) }
+{
+    Callee::at(alloc, place_at(tokens, word), Expr::Literal(literal))
+}
+
+/// What the word `word` means, of which arguments may follow: a literal, a constructor, an operator in parentheses,
+/// `.x`, or a name. It is of the text of the tokens `tokens`, as the lexer makes them; `world` has the names of the
+/// module and its imports, and `scope` the local names. A fault of the use is noted in `log`, and else the place where a
+/// local name is bound that is used. The error means that memory ran out.
+pub fn one_word(
+    alloc: Global,
+    tokens: &[Token<'_>],
+    world: &World,
+    scope: &Scope,
+    log: &mut Log,
+    word: Word,
+) -> Result<Callee, AllocError>
+    requires { AreLiterals (tokens_view tokens.now) }
+    ensures meaning { IfOk result (λ c. (w : naming.World) → IsWorld world.now w → callee_view c
+        ≡ spec.callee w (locals_of scope.now) (expr_of (tree_view.token_view (tokens_view tokens.now) word))) }
+    ensures log { OnOk result ((w : naming.World) → IsWorld world.now w → Grows w log.old log.new
+        (spec.expr_sites w (locals_of scope.now) (expr_of (tree_view.token_view (tokens_view tokens.now) word)))) }
+{
+    match kind_at(tokens, word) {
+        Kind::Int(value) => literal_at(alloc, tokens, word, int_of(value)),
+        Kind::Char => literal_at(alloc, tokens, word, char_at(alloc, tokens, word)?),
+        Kind::Text => literal_at(alloc, tokens, word, text_value_at(alloc, tokens, word)?),
+        Kind::UpperName => maker_at(alloc, tokens, world, log, word),
+        Kind::QualifiedUpper => maker_at(alloc, tokens, world, log, word),
+        Kind::Operator => {
+            note_operator(alloc, tokens, log, word)?;
+            Ok(Callee::plain(alloc, core_function(alloc, tokens, word)?))
+        }
+        Kind::Field => {
+            let name = field_name(alloc, tokens, word)?;
+            Callee::at(alloc, place_at(tokens, word), Expr::Accessor(name))
+        }
+        _ => {
+            let value = value_at(alloc, tokens, world, scope, log, word)?;
+            Ok(Callee::plain(alloc, value))
+        }
+    }
+}

@@ -1,0 +1,141 @@
+//! Uses of values, constructors and operators.
+
+ghost use Rattle.std.specs.Prelude.{◌≡◌, [], ◌∷◌, IfOk, OnOk};
+ghost use Rattle.elm_tree.specs.Tree.{Long};
+ghost use Rattle.elm_tree.specs.View as tree_view;
+ghost use Rattle.elm_tree.specs.View.{word_view};
+ghost use Rattle.elm_tree.specs.Turns.{tokens_view};
+ghost use Rattle.elm_canon.specs.View.{expr_view};
+ghost use Rattle.canon_sites.specs.Naming as naming;
+ghost use Rattle.canon_env.specs.Found.{One, meant_by};
+ghost use Rattle.canon_env.specs.Shown.{maker_meaning_view};
+ghost use Rattle.canon_sites.specs.Naming.{IsWorld, maker_found, own_name};
+ghost use Rattle.canon_sites.specs.Sites.{ValueUse, MakerUse, OperatorUse, value_meaning};
+ghost use Rattle.canon_scope.specs.Scope.{locals_of};
+ghost use Rattle.canon_scope.specs.Logs.{Grows};
+ghost use Rattle.canon_calls.specs.Calls.{callee_view};
+ghost use Rattle.canon_calls.specs.Callees.{blank, alone, maker_head, value_of};
+
+use canon_calls::callee::{Callee, Head, top_name};
+use canon_env::env::World;
+use canon_env::finding::place_at;
+use canon_env::found::{Entry, Meant};
+use canon_env::shown::MakerMeaning;
+use canon_scope::log::Log;
+use canon_scope::long::LongName;
+use canon_scope::scope::Scope;
+use canon_scope::values::value_use;
+use elm_base::fault::Code;
+use elm_base::position::Pos;
+use elm_canon::tree::{Expr, Literal};
+use elm_lexer::token::Token;
+use elm_names::name::Name;
+use elm_tree::operator::strength_of;
+use elm_tree::tree::Word;
+use elm_tree::turns::text_at;
+use std::alloc::{AllocError, Global};
+
+/// The level past that of each operator of the language.
+const NO_LEVEL: u8 = 10;
+
+/// What a use without meaning is.
+#[tactic(auto, using(elm_canon::proofs::Views::literal))]
+fn blank() -> Expr
+    ensures { expr_view result ≡ blank }
+{
+    Expr::Literal(Literal::Int(0))
+}
+
+/// The value that the name means that the word `word` is, where it stands: a local name of `scope`, or else a name of
+/// the module or of its imports. What has no meaning is 0. A fault of the use is noted, and else the place where a
+/// local name is bound that is used. The word is of the text of the tokens `tokens`. The error means that memory ran
+/// out.
+pub fn value_at(
+    alloc: Global,
+    tokens: &[Token<'_>],
+    world: &World,
+    scope: &Scope,
+    log: &mut Log,
+    word: Word,
+) -> Result<Expr, AllocError>
+    ensures meaning { IfOk result (λ e. (w : naming.World) → IsWorld world.now w → expr_view e
+        ≡ value_of (tree_view.long_view (tokens_view tokens.now) word)
+        (value_meaning w (locals_of scope.now) (tree_view.long_view (tokens_view tokens.now) word))) }
+    ensures log { OnOk result ((w : naming.World) → IsWorld world.now w → Grows w log.old log.new
+        (ValueUse (locals_of scope.now) (tree_view.long_view (tokens_view tokens.now) word) ∷ [])) }
+{
+    match value_use(alloc, tokens, world, scope, log, word)? {
+        Some(reference) => {
+            let name = Box::new(alloc, Expr::Name(reference))?;
+            Ok(Expr::Located(place_at(tokens, word), name))
+        }
+        None => Ok(blank()),
+    }
+}
+
+/// The constructor that an entry has, as what is called.
+fn maker_of(
+    alloc: Global,
+    place: Pos,
+    name: Name,
+    meant: &Meant<MakerMeaning>,
+) -> Result<Callee, AllocError>
+    ensures { IfOk result (λ c. (x : Long) → x.place ≡ place → own_name x ≡ name → callee_view c
+        ≡ alone (maker_head x (One (meant_by maker_meaning_view meant.now)))) }
+{
+    let home = meant.home.clone()?;
+    match &meant.meaning {
+        MakerMeaning::OfUnion(union, alternative) => Ok(Callee {
+            head: Head::Maker(place, home, name, union.clone()?, alternative.clone()?),
+            arguments: Vec::new(alloc),
+        }),
+        MakerMeaning::OfRecord(_) => Ok(Callee::plain(alloc, top_name(alloc, place, home, name)?)),
+    }
+}
+
+/// The constructor that the name means that the word `word` is, as what is called: one of the module or of its imports.
+/// What has no meaning is 0. A fault of the use is noted. The word is of the text of the tokens `tokens`. The error
+/// means that memory ran out.
+pub fn maker_at(
+    alloc: Global,
+    tokens: &[Token<'_>],
+    world: &World,
+    log: &mut Log,
+    word: Word,
+) -> Result<Callee, AllocError>
+    ensures meaning { IfOk result (λ c. (w : naming.World) → IsWorld world.now w → callee_view c
+        ≡ alone (maker_head (tree_view.long_view (tokens_view tokens.now) word)
+        (maker_found w (tree_view.long_view (tokens_view tokens.now) word)))) }
+    ensures log { OnOk result ((w : naming.World) → IsWorld world.now w → Grows w log.old log.new
+        (MakerUse (tree_view.long_view (tokens_view tokens.now) word) ∷ [])) }
+{
+    let long = LongName::read(alloc, tokens, word)?;
+    match world.maker(&long.qualifier, &long.name) {
+        Some(Entry::One(meant)) => maker_of(alloc, place_at(tokens, word), long.name, meant),
+        Some(Entry::Several) => {
+            log.note_name(alloc, tokens, Code::Ambiguous, word)?;
+            Ok(Callee::plain(alloc, blank()))
+        }
+        None => {
+            log.note_name(alloc, tokens, Code::UnknownConstructor, word)?;
+            Ok(Callee::plain(alloc, blank()))
+        }
+    }
+}
+
+/// Notes that the operator `operator` is none of the language, if it is none. It is a word of the text of the tokens
+/// `tokens`. The error means that memory ran out.
+pub fn note_operator(
+    alloc: Global,
+    tokens: &[Token<'_>],
+    log: &mut Log,
+    operator: Word,
+) -> Result<(), AllocError>
+    ensures { OnOk result ((w : naming.World) → Grows w log.old log.new
+        (OperatorUse (word_view (tokens_view tokens.now) operator) ∷ [])) }
+{
+    if strength_of(text_at(tokens, operator)).level < NO_LEVEL {
+        return Ok(());
+    }
+    log.note_word(alloc, tokens, Code::UnknownOperator, operator)
+}

@@ -1,0 +1,2 @@
+-- names of one declaration more
+pub mod Joining

@@ -1,0 +1,4 @@
+pub mod Written
+pub mod Parameters
+pub mod Recursion
+pub mod Kept

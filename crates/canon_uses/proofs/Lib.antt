@@ -1,0 +1,2 @@
+-- one expression, branch, group or function more
+pub mod Adding

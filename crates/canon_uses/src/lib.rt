@@ -1,0 +1,4 @@
+//! The names of modules that expressions use.
+#![tactic(auto)]
+
+pub mod uses;

@@ -1,0 +1,4 @@
+port module Main exposing (main)
+
+port out : Int -> Cmd msg
+

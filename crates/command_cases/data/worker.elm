@@ -1,0 +1,3 @@
+main : Program () () ()
+main =
+    Platform.worker

@@ -1,0 +1,3 @@
+module B exposing (b)
+
+b = 1

@@ -1,0 +1,3 @@
+module C exposing (..)
+
+import List

@@ -1,0 +1,5 @@
+module D exposing (..)
+
+import C
+import B as Bee exposing (b)
+import C

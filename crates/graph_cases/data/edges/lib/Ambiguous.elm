@@ -1,0 +1,2 @@
+module Ambiguous exposing (..)
+import Main

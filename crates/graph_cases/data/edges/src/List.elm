@@ -1,0 +1,2 @@
+module List exposing (..)
+import Main

@@ -1,0 +1,7 @@
+module Main exposing (..)
+
+import Absent
+import List
+import Twice
+import Ambiguous
+import Only

@@ -1,0 +1,3 @@
+module A exposing (..)
+import Main
+import exposing (..)

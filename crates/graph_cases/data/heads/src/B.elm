@@ -1,0 +1,4 @@
+module B exposing (..)
+import G
+
+b = 	1

@@ -1,0 +1,2 @@
+module C exposing
+import Main

@@ -1,0 +1,2 @@
+port out : Int -> Cmd msg
+import Main

@@ -1,0 +1,5 @@
+
+{- no header -}
+import G
+
+e = (

@@ -1,0 +1,8 @@
+import A
+import B
+import C
+import D
+import E
+import F
+
+main = )

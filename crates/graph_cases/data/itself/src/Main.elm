@@ -1,0 +1,4 @@
+module Main exposing (..)
+
+import List
+import    Main as M

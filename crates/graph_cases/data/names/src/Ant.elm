@@ -1,0 +1,2 @@
+module Ant exposing (..)
+import Zebra

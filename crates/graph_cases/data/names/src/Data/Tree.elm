@@ -1,0 +1,2 @@
+port module Data.Tree exposing (..)
+import Data

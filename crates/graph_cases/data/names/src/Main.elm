@@ -1,0 +1,3 @@
+import Zebra
+import Data.Tree
+import Ant

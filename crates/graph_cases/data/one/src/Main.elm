@@ -1,0 +1,3 @@
+module Main exposing (main)
+
+main = 1

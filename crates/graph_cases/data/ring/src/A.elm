@@ -1,0 +1,2 @@
+module A exposing (..)
+import B

@@ -1,0 +1,2 @@
+module B exposing (..)
+import A

@@ -1,0 +1,3 @@
+module D.E exposing (..)
+import A
+import C

@@ -1,0 +1,2 @@
+import Y
+import B

@@ -1,0 +1,2 @@
+module Y exposing (..)
+import Z

@@ -1,0 +1,2 @@
+module Z exposing (..)
+import Y

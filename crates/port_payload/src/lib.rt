@@ -1,0 +1,4 @@
+//! Which types cross a port.
+#![tactic(auto)]
+
+pub mod payload;

@@ -1,0 +1,2 @@
+-- the number of a name, one declaration after the other
+pub mod Numbering

@@ -1,0 +1,2 @@
+pub mod TopUses
+pub mod Kept

@@ -1,0 +1,4 @@
+//! Which declarations of a module its declarations use.
+#![tactic(auto)]
+
+pub mod numbers;
