@@ -1,4 +1,21 @@
 //! The loops over the scripts and their lines.
+//!
+//! Each line of a script is of one of these forms.
+//!
+//! - `# TITLE` begins a case, in which there is no file.
+//! - `+ PATH` makes the file PATH, which is empty. `- PATH` names a file that is absent.
+//! - `|TEXT` adds a line to the file made last, and `:TEXT` adds a text without a line feed. `*N TEXT` adds the text
+//!   N times. `<NAME` adds what the file NAME beside the scripts holds.
+//! - `! files N` lets call N of the next command on files fail, counted from 0. `! out N` and `! err N` do the same for
+//!   its calls on standard output and standard error.
+//! - `$ WORDS` runs the command of these words, with one space between two, over the files that the case has named.
+//!   `$` alone stands for no words. What the command leaves in these files stays for the lines that follow.
+//! - `? PATH` asks for a file that the case has named.
+//!
+//! Titles, commands and questions are printed. After a command stand its status and what it put on standard output (`1`)
+//! and standard error (`2`), and after a question what the file holds, or that it is absent. These texts are written by
+//! `|` and `:` as in scripts. A file that begins with `head.js` and ends with `tail.js`, the fixed texts of an output, is
+//! written with `<` for them.
 
 use crate::case::{Case, Ran};
 use crate::line::{Line, line_of};
