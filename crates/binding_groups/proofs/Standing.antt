@@ -54,13 +54,13 @@ last_use {uses} {m} {i} (through {j = x} u r) =
 
 module _ (uses : List (List ℕ)) (w : AreWithin uses) where
   -- what uses is a definition
-  user_within : (j i : ℕ) → Uses uses j i → j < length uses
+  pub user_within : (j i : ℕ) → Uses uses j i → j < length uses
   user_within j i u =
       ⊎_elim (λ l. l)
       (λ h. absurd (no_member i (subst (λ xs. Contains xs i) (get_or-eq_default uses [] h) u)))
       (cases_lt j (length uses))
 
-  itself_from : (i j : ℕ) → Uses uses j i → Reaches uses i j → uses_itself uses i ≡ true
+  pub itself_from : (i j : ℕ) → Uses uses j i → Reaches uses i j → uses_itself uses i ≡ true
   itself_from i j u r =
       any_to (λ k. is_in i (list_at uses k) && reaches uses i k) (places_of uses) j
       (in_range 0 (length uses) j (omega arith) (omega (arith, user_within j i u)))
@@ -77,7 +77,7 @@ module _ (uses : List (List ℕ)) (w : AreWithin uses) where
   by_another i m there back other =
       ⊎_elim (λ e. absurd (other e)) (λ s. itself_from i s.0 s.2 (joined_reaches uses there s.1)) (last_use back)
 
-  recursive_is : (g : List ℕ) → IsGroup uses g → (i : ℕ) → Contains g i → is_recursive uses g ≡ true →
+  pub recursive_is : (g : List ℕ) → IsGroup uses g → (i : ℕ) → Contains g i → is_recursive uses g ≡ true →
       uses_itself uses i ≡ true
   recursive_is [] is i m e = absurd (no_member i m)
   recursive_is (k ∷ []) is i m e =
@@ -102,7 +102,7 @@ module _ (uses : List (List ℕ)) (w : AreWithin uses) where
           let b : k < i = ascends_head k i (l ∷ rest) is.ascends n in
           by_another i k t.1 t.0 (λ e. omega (arith, b, e))
 
-  is_recursive_from : (g : List ℕ) → IsGroup uses g → (i : ℕ) → Contains g i → uses_itself uses i ≡ true →
+  pub is_recursive_from : (g : List ℕ) → IsGroup uses g → (i : ℕ) → Contains g i → uses_itself uses i ≡ true →
       is_recursive uses g ≡ true
   is_recursive_from [] is i m e = absurd (no_member i m)
   is_recursive_from (k ∷ []) is i m e =
@@ -149,7 +149,7 @@ once_append (x ∷ xs) ys a b apart = (
 )
 
 module _ {uses : List (List ℕ)} where
-  group_in : {placed : List ℕ} {gs : List (List ℕ)} → IsOrder uses placed gs → (g : List ℕ) → Contains gs g → IsGroup uses g
+  pub group_in : {placed : List ℕ} {gs : List (List ℕ)} → IsOrder uses placed gs → (g : List ℕ) → Contains gs g → IsGroup uses g
   group_in (all_placed f) g c = absurd (no_member g c)
   group_in (next {group = h} {rest = rest} n o) g c =
       ⊎_elim (λ e. subst (IsGroup uses) e n.ready.is_group) (λ k. group_in o g k) (member_cases h g rest c)

@@ -1,8 +1,8 @@
 //! The groups of definitions in order, each with whether its definitions use themselves.
 
-ghost use Rattle.std.specs.Prelude.{◌≡◌, ◌^◌, ◌<◌, ℕ, length, map, IfOk};
+ghost use Rattle.std.specs.Prelude.{◌≡◌, ◌^◌, ◌<◌, ℕ, [], length, map, IfOk};
 ghost use Rattle.std.specs.List.{All};
-ghost use Rattle.decl_groups.specs.Groups.{plain};
+ghost use Rattle.decl_groups.specs.Groups.{plain, IsOrder};
 ghost use Rattle.binding_groups.specs.InOrder as computed;
 ghost use Rattle.binding_groups.specs.View.{members_of, marks_of, is_marked, StandOnce, joined};
 
@@ -32,6 +32,7 @@ pub fn ordered_groups(alloc: Global, uses: &[Vec<u32>]) -> Result<Vec<Group>, Al
         computed.ordered_groups (plain uses.now))) }
     ensures itself { IfOk result (λ groups. (i : ℕ) → i < length uses.now
         → is_marked groups.items i ≡ computed.uses_itself (plain uses.now) i) }
+    ensures order { IfOk result (λ groups. IsOrder (plain uses.now) [] (members_of groups.items)) }
     ensures once { IfOk result (λ groups. StandOnce (joined (members_of groups.items))) }
 {
     let order = groups(alloc, uses)?;

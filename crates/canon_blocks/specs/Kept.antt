@@ -1,8 +1,10 @@
 -- What the program keeps of the definitions of a block.
-use Rattle.std.specs.Prelude.{◌≡◌, ℕ, List, [], ◌∷◌, ◌<◌, length, slice_index_or, slice_set}
+use Rattle.std.specs.Prelude.{◌≡◌, ℕ, List, [], ◌∷◌, ◌<◌, Option, Some, None, length, slice_index_or, slice_set}
 use Rattle.indexmap.specs.IndexMap.{get}
 use Rattle.elm_tree.specs.Tree.{Pos, Word}
-use Rattle.elm_canon.specs.View.{FunctionView, expr_view, pattern_view, patterns_view, title_view}
+use Rattle.elm_canon.specs.Tree as canon
+use Rattle.elm_canon.specs.View.{FunctionView, expr_view, pattern_view, patterns_view, title_view, group_view}
+use Rattle.elm_canon.specs.declared.tree.Group.{Group}
 use Rattle.binding_groups.specs.InOrder.{ordered_groups, uses_itself}
 use Rattle.binding_groups.specs.View.{members_of, is_marked, StandOnce, joined}
 use Rattle.canon_blocks.specs.Binding.{binder_of, same_place}
@@ -27,23 +29,28 @@ pub record IsOrderOf (order : Order) (uses : List (List ℕ)) : Type 0 where
   pub itself : (i : ℕ) → i < length uses → is_marked order.groups.items i ≡ uses_itself uses i
   pub once : StandOnce (joined (members_of order.groups.items))
 
--- ---- definitions that are taken out, one after the other
+-- the group of one definition, if it makes one
+abbrev pub one_view : Option Group → List canon.Group
+one_view None = []
+one_view (Some g) = group_view g ∷ []
 
--- what is left where one is taken
-abbrev pub left_at : List Made → ℕ → List Made
-left_at made i = slice_set made i NoMade
+-- ---- what is taken out of a list, one after the other
 
-abbrev pub left_after : List Made → List ℕ → List Made
-left_after made [] = made
-left_after made (i ∷ is) = left_after (left_at made i) is
+-- what is left where one is taken, with `none` in its place
+abbrev pub left_at : {X : Type 0} → X → List X → ℕ → List X
+left_at none xs i = slice_set xs i none
 
-abbrev pub taken_at : List Made → List ℕ → List Made
-taken_at made [] = []
-taken_at made (i ∷ is) = slice_index_or made i NoMade ∷ taken_at (left_at made i) is
+abbrev pub left_after : {X : Type 0} → X → List X → List ℕ → List X
+left_after none xs [] = xs
+left_after none xs (i ∷ is) = left_after none (left_at none xs i) is
 
-abbrev pub taken_each : List Made → List (List ℕ) → List (List Made)
-taken_each made [] = []
-taken_each made (is ∷ rest) = taken_at made is ∷ taken_each (left_after made is) rest
+abbrev pub taken_at : {X : Type 0} → X → List X → List ℕ → List X
+taken_at none xs [] = []
+taken_at none xs (i ∷ is) = slice_index_or xs i none ∷ taken_at none (left_at none xs i) is
+
+abbrev pub taken_each : {X : Type 0} → X → List X → List (List ℕ) → List (List X)
+taken_each none xs [] = []
+taken_each none xs (is ∷ rest) = taken_at none xs is ∷ taken_each none (left_after none xs is) rest
 
 -- ---- functions
 

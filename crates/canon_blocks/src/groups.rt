@@ -4,7 +4,8 @@ ghost use Rattle.std.specs.Prelude.{◌≡◌, ◌≢◌, ◌++◌, ◌∷◌, [
 ghost use Rattle.elm_canon.specs.Tree as canon;
 ghost use Rattle.elm_canon.specs.View.{group_view, function_view};
 ghost use Rattle.canon_blocks.specs.Blocks as spec;
-ghost use Rattle.canon_blocks.specs.Kept.{made_view, IsOrderOf, left_at, left_after, taken_at, functions_among};
+ghost use Rattle.canon_blocks.specs.Kept.{made_view, one_view, IsOrderOf, left_at, left_after, taken_at};
+ghost use Rattle.canon_blocks.specs.Kept.{functions_among};
 
 use crate::made::Made;
 use crate::order::Order;
@@ -15,7 +16,7 @@ use std::mem;
 /// Takes out what stands at a place, and leaves nothing there.
 fn take_one(made: &mut Vec<Made>, at: usize) -> Made
     ensures taken { made_view result ≡ slice_index_or (map made_view made.old.items) at spec.NoMade }
-    ensures left { map made_view made.new.items ≡ left_at (map made_view made.old.items) at }
+    ensures left { map made_view made.new.items ≡ left_at spec.NoMade (map made_view made.old.items) at }
 {
     if at < made.len() {
         mem::replace(&mut made[at], Made::Nothing)
@@ -26,8 +27,8 @@ fn take_one(made: &mut Vec<Made>, at: usize) -> Made
 
 /// Takes out what stands at places, in turn.
 fn take_each(alloc: Global, made: &mut Vec<Made>, members: &[u32]) -> Result<Vec<Made>, AllocError>
-    ensures taken { IfOk result (λ v. map made_view v.items ≡ taken_at (map made_view made.old.items) members.now) }
-    ensures left { OnOk result (map made_view made.new.items ≡ left_after (map made_view made.old.items) members.now) }
+    ensures taken { IfOk result (λ v. map made_view v.items ≡ taken_at spec.NoMade (map made_view made.old.items) members.now) }
+    ensures left { OnOk result (map made_view made.new.items ≡ left_after spec.NoMade (map made_view made.old.items) members.now) }
 {
     let mut taken = Vec::new(alloc);
     for member in members {
@@ -56,8 +57,8 @@ fn push_function(made: Made, functions: &mut Vec<Function>) -> Result<(), AllocE
     }
 }
 
-/// The functions among definitions.
-fn functions_in(alloc: Global, made: Vec<Made>) -> Result<Vec<Function>, AllocError>
+/// The functions among the definitions `made`. The error means that memory ran out.
+pub fn functions_in(alloc: Global, made: Vec<Made>) -> Result<Vec<Function>, AllocError>
     ensures { IfOk result (λ v. canon.functions_of (map function_view v.items)
         ≡ spec.functions_in (map made_view made.items)) }
 {
@@ -68,13 +69,12 @@ fn functions_in(alloc: Global, made: Vec<Made>) -> Result<Vec<Function>, AllocEr
     Ok(functions)
 }
 
-/// Adds the group of one definition. An annotation makes none.
-fn push_one(alloc: Global, made: Made, groups: &mut Vec<Group>) -> Result<(), AllocError>
-    ensures { OnOk result (map group_view groups.new.items
-        ≡ map group_view groups.old.items ++ spec.group_of (made_view made ∷ [])) }
+/// The group of the definition `made` alone. None: an annotation makes none. The error means that memory ran out.
+pub fn one_group(alloc: Global, made: Made) -> Result<Option<Group>, AllocError>
+    ensures { IfOk result (λ g. one_view g ≡ spec.group_of (made_view made ∷ [])) }
 {
     match made {
-        Made::Nothing => {}
+        Made::Nothing => Ok(None),
         Made::Function(title, parameters, body) => {
             let mut functions = Vec::with_capacity(alloc, 1)?;
             functions.push(Function {
@@ -82,12 +82,25 @@ fn push_one(alloc: Global, made: Made, groups: &mut Vec<Group>) -> Result<(), Al
                 parameters,
                 body,
             })?;
-            groups.push(Group::Together(functions))?;
+            Ok(Some(Group::Together(functions)))
         }
-        Made::Constant(title, value) => groups.push(Group::Constant(title, value))?,
-        Made::Parts(pattern, value) => groups.push(Group::Destructure(pattern, value))?,
+        Made::Constant(title, value) => Ok(Some(Group::Constant(title, value))),
+        Made::Parts(pattern, value) => Ok(Some(Group::Destructure(pattern, value))),
     }
-    Ok(())
+}
+
+/// Adds the group of one definition, if it makes one.
+fn push_one(alloc: Global, made: Made, groups: &mut Vec<Group>) -> Result<(), AllocError>
+    ensures { OnOk result (map group_view groups.new.items
+        ≡ map group_view groups.old.items ++ spec.group_of (made_view made ∷ [])) }
+{
+    match one_group(alloc, made)? {
+        Some(group) => {
+            groups.push(group)?;
+            Ok(())
+        }
+        None => Ok(()),
+    }
 }
 
 /// Adds the group of the definitions at these places, and takes them out.
@@ -98,8 +111,8 @@ fn push_group(
     groups: &mut Vec<Group>,
 ) -> Result<(), AllocError>
     ensures groups { OnOk result (map group_view groups.new.items ≡ map group_view groups.old.items
-        ++ spec.group_of (taken_at (map made_view made.old.items) members.now)) }
-    ensures left { OnOk result (map made_view made.new.items ≡ left_after (map made_view made.old.items) members.now) }
+        ++ spec.group_of (taken_at spec.NoMade (map made_view made.old.items) members.now)) }
+    ensures left { OnOk result (map made_view made.new.items ≡ left_after spec.NoMade (map made_view made.old.items) members.now) }
 {
     if members.len() == 1 {
         return push_one(alloc, take_one(made, members[0] as usize), groups);

@@ -11,7 +11,7 @@ use std::alloc::{AllocError, Global};
 /// The groups of the definitions of a block, by their places, each after those that it uses.
 #[derive(Drop)]
 pub struct Order {
-    pub(crate) groups: Vec<binding_groups::Group>,
+    pub groups: Vec<binding_groups::Group>,
 }
 
 impl Order {

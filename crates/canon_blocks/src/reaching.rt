@@ -51,8 +51,9 @@ fn mark_group(marks: &mut Vec<bool>, group: &Group)
     }
 }
 
-/// Of so many definitions, which stand in a group whose definitions use themselves.
-fn marks_in(alloc: Global, order: &Order, count: usize) -> Result<Vec<bool>, AllocError>
+/// Of the first `count` definitions, which stand in a group whose definitions use themselves. `order` is their order. The
+/// error means that memory ran out.
+pub fn marks_in(alloc: Global, order: &Order, count: usize) -> Result<Vec<bool>, AllocError>
     ensures count { IfOk result (λ v. length v.items ≡ count) }
     ensures marks { IfOk result (λ v. (i : ℕ) → i < count
         → slice_index_or v.items i false ≡ is_marked order.now.groups.items i) }
@@ -74,8 +75,9 @@ fn first_text<'a>(tokens: &[Token<'a>], words: &[Word]) -> &'a [u8]
     }
 }
 
-/// Notes a definition that reaches itself, unless it is a function.
-fn note_recursion(
+/// Notes the definition `definition` if it reaches itself, as `reaches` says, and is not a function. It is of the text of
+/// the tokens `tokens`. The error means that memory ran out.
+pub fn note_recursion(
     alloc: Global,
     tokens: &[Token<'_>],
     log: &mut Log,

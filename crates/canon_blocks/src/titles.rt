@@ -22,9 +22,38 @@ use elm_tree::tree;
 use elm_tree::tree::Word;
 use std::alloc::{AllocError, Global};
 
-/// What the definition of the local name `name` means: a function by its parameters `written` or its body `body`, or
-/// else a constant. `parameters` is what the parameters mean, `value` what the body means, and `before` the annotation
-/// that stands before it. The definition is of the text of the tokens `tokens`. The error means that memory ran out.
+/// What the definition of the name `name` means, which is written as the word `word`: a function by its parameters
+/// `written` or its body `body`, or else a constant. `parameters` is what the parameters mean, `value` what the body
+/// means, and `before` the annotation that stands before it. The definition is of the text of the tokens `tokens`.
+pub fn made_named(
+    tokens: &[Token<'_>],
+    name: Ref,
+    word: Word,
+    before: Option<Annotation>,
+    written: &[tree::Pattern],
+    parameters: Vec<Pattern>,
+    body: &tree::Expr,
+    value: Expr,
+) -> Made
+    ensures { made_view result ≡ spec.made_of
+        (is_function (tree_view.patterns_view (tokens_view tokens.now) written.now)
+        (tree_view.expr_view (tokens_view tokens.now) body.now))
+        (spec.title_of name (word_view (tokens_view tokens.now) word).place (option_map annotation_view before))
+        (patterns_view parameters.items) (expr_view value) }
+{
+    let title = Title {
+        name,
+        place: place_at(tokens, word),
+        annotation: before,
+    };
+    if is_function(written, body) {
+        Made::Function(title, parameters, value)
+    } else {
+        Made::Constant(title, value)
+    }
+}
+
+/// What the definition of the local name `name` means, otherwise as `made_named`. The error means that memory ran out.
 pub fn made_of(
     alloc: Global,
     tokens: &[Token<'_>],
@@ -42,14 +71,8 @@ pub fn made_of(
         (word_view (tokens_view tokens.now) name).place (option_map annotation_view before))
         (patterns_view parameters.items) (expr_view value)) }
 {
-    let title = Title {
-        name: Ref::Local(word_name(alloc, tokens, name)?),
-        place: place_at(tokens, name),
-        annotation: before,
-    };
-    if is_function(written, body) {
-        Ok(Made::Function(title, parameters, value))
-    } else {
-        Ok(Made::Constant(title, value))
-    }
+    let local = Ref::Local(word_name(alloc, tokens, name)?);
+    Ok(made_named(
+        tokens, local, name, before, written, parameters, body, value,
+    ))
 }

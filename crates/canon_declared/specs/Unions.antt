@@ -1,5 +1,5 @@
 -- The unions that a module declares, given what names of types mean there, and their sites. (Elm guide: custom types.)
-use Rattle.std.specs.Prelude.{ℕ, pos, negsuc, Bool, List, suc, ◌&&◌, if◌then◌else◌, Option, Some, None, codes}
+use Rattle.std.specs.Prelude.{ℕ, pos, negsuc, Bool, List, [], suc, ◌&&◌, if◌then◌else◌, Option, Some, None, codes}
 use Rattle.std.specs.Prelude.{map, flat_map, filter_map, nat_eq}
 use Rattle.std.specs.List.{enumerate_from}
 use Rattle.elm_tree.specs.Tree as tree
@@ -63,6 +63,15 @@ union_of m w u = record {
   union = Declared m (name_of u.name) (alternatives_of m (name_of u.name) u.constructors);
   parameters = map name_of u.parameters;
   fields = map (fields_of w) u.constructors;
+}
+
+-- its name and parameters alone
+abbrev pub bare_union : Name → UnionTree → UnionDeclaration
+bare_union m u = record {
+  name = name_of u.name;
+  union = Declared m (name_of u.name) [];
+  parameters = map name_of u.parameters;
+  fields = [];
 }
 
 -- ---- sites

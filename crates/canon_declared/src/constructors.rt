@@ -83,8 +83,8 @@ pub(crate) fn alternatives_of(
     Ok(alternatives)
 }
 
-/// The names that words spell.
-pub(crate) fn names_of(
+/// The names that the words `words` spell in the text of the tokens `tokens`. The error means that memory ran out.
+pub fn names_of(
     alloc: Global,
     tokens: &[Token<'_>],
     words: &[Word],

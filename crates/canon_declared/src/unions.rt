@@ -8,7 +8,7 @@ ghost use Rattle.elm_canon.specs.View.{union_declaration_view};
 ghost use Rattle.canon_env.specs.Shown.{unions_view};
 ghost use Rattle.canon_sites.specs.Naming as naming;
 ghost use Rattle.canon_sites.specs.Naming.{IsWorld};
-ghost use Rattle.canon_declared.specs.Unions.{union_in, unions_in, union_of, union_faults};
+ghost use Rattle.canon_declared.specs.Unions.{union_in, unions_in, union_of, bare_union, union_faults};
 ghost use Rattle.canon_declared.specs.Kept.{union_view};
 
 use crate::constructors::{alternatives_of, fields_of, names_of};
@@ -76,6 +76,54 @@ fn union_of(
         parameters,
         fields,
     })
+}
+
+/// A written union of the module `home` without its constructors.
+fn bare_union_of(
+    alloc: Global,
+    tokens: &[Token<'_>],
+    home: &Name,
+    written: &WrittenUnion<'_>,
+) -> Result<UnionDeclaration, AllocError>
+    ensures { IfOk result (λ u. union_declaration_view u
+        ≡ bare_union home.now (union_view (tokens_view tokens.now) written.now)) }
+{
+    let name = word_name(alloc, tokens, written.name)?;
+    let union = Union::new(
+        alloc,
+        UnionShape::Declared(home.clone()?, name.clone()?, Vec::new(alloc)),
+    )?;
+    let parameters = names_of(alloc, tokens, written.parameters)?;
+    Ok(UnionDeclaration {
+        name,
+        union,
+        parameters,
+        fields: Vec::new(alloc),
+    })
+}
+
+/// The unions among the declarations `declarations` of the module `home`, in written order, without their constructors.
+/// The declarations are of the text of the tokens `tokens`. The error means that memory ran out.
+pub fn bare_unions(
+    alloc: Global,
+    tokens: &[Token<'_>],
+    home: &Name,
+    declarations: &[Declaration],
+) -> Result<Vec<Arc<UnionDeclaration, Global>>, AllocError>
+    ensures { IfOk result (λ v. unions_view v.items
+        ≡ map (bare_union home.now) (unions_in (map (declaration_view (tokens_view tokens.now)) declarations.now))) }
+{
+    let mut unions = Vec::new(alloc);
+    for declaration in declarations {
+        match union_in(declaration) {
+            Some(written) => {
+                let union = bare_union_of(alloc, tokens, home, &written)?;
+                unions.push(Arc::new(alloc, union)?)?;
+            }
+            None => {}
+        }
+    }
+    Ok(unions)
 }
 
 /// The unions among the declarations `declarations` of the module `home`, in written order, where names mean what

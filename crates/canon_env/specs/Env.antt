@@ -97,6 +97,14 @@ imported_rows (k ∷ ks) = join (import_rows k) (imported_rows ks)
 abbrev pub own_rows : Name → Shown → Rows
 own_rows home s = shown_rows [] home Everything s
 
+-- and one more type of a module, without a qualifier
+abbrev pub with_type : Rows → Name → Name → TypeMeaning → Rows
+with_type rows home x m = record {
+  values = rows.values;
+  types = rows.types ++ rows_of [] home (record { name = x; meaning = m } ∷ []);
+  makers = rows.makers;
+}
+
 -- ---- what the program keeps
 
 abbrev pub known_view : known.Known → Known

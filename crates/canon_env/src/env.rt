@@ -7,10 +7,10 @@ ghost use Rattle.canon_env.specs.Shown.{shown_view, type_meaning_view, maker_mea
 ghost use Rattle.canon_env.specs.Imports.{Exposing, Everything};
 ghost use Rattle.canon_env.specs.Filter.{Filters};
 ghost use Rattle.canon_env.specs.Env.{IsEnvOf, value_view, Rows, no_rows, join, shown_rows, import_rows, imported_rows};
-ghost use Rattle.canon_env.specs.Env.{own_rows, known_view};
+ghost use Rattle.canon_env.specs.Env.{own_rows, known_view, with_type};
 
 use crate::filter::Filter;
-use crate::found::Entry;
+use crate::found::{Entry, Named};
 use crate::import::Import;
 use crate::listing;
 use crate::shown::{MakerMeaning, Shown, TypeMeaning};
@@ -138,6 +138,24 @@ impl Env {
             listing::makers(alloc, filter, shown)?,
         )?;
         Ok(())
+    }
+
+    /// Adds the type `name` of the module `home`, which means `meaning`, without a qualifier. Where something of that
+    /// module has the name already, it keeps its meaning. The error means that memory ran out; then names are missing.
+    pub fn add_type(
+        &mut self,
+        alloc: Global,
+        home: &Name,
+        name: Name,
+        meaning: TypeMeaning,
+    ) -> Result<(), AllocError>
+        ensures { OnOk result ((rows : Rows) → IsEnvOf self.old rows
+            → IsEnvOf self.new (with_type rows home.now name (type_meaning_view meaning))) }
+    {
+        let mut named = Vec::new(alloc);
+        named.push(Named { name, meaning })?;
+        let none = no_name(alloc)?;
+        self.types.add_all(alloc, &none, home, named)
     }
 
     /// Adds the names of an import. `all` lets everything through, and `none` is the qualifier of no module.

@@ -8,14 +8,13 @@ use Rattle.std.proofs.lemmas.List.Elements.{All-nil, All-cons}
 use Rattle.std.proofs.lemmas.List.{length-map}
 use Rattle.elm_lexer.specs.Tokens.{Token}
 use Rattle.elm_tree.specs.Tree.{Long}
-use Rattle.elm_canon.specs.Names.{Name}
+use Rattle.elm_canon.specs.Names.{Name, same_name}
 use Rattle.decl_groups.specs.Groups.{plain}
 use Rattle.binding_groups.specs.InOrder.{uses_itself}
 use Rattle.canon_env.specs.Exposing.{is_among}
 use Rattle.canon_env.specs.Imports.{name_of}
 use Rattle.canon_env.specs.declared.finding.Finding.{Finding}
-use Rattle.canon_sites.specs.Naming.{own_name}
-use Rattle.canon_sites.specs.Sites.{is_unqualified}
+use Rattle.canon_sites.specs.Naming.{qualifier_of, own_name}
 use Rattle.canon_types.specs.Written.{AliasTree, alias_names, names_in}
 use Rattle.canon_types.specs.Recursion.{place_among, alias_place, uses_of, alias_uses, alias_fault}
 use Rattle.canon_types.specs.Kept.{fault_if, marked_fault, marked_faults, Keeps, aliases_view}
@@ -28,7 +27,7 @@ use Rattle.canon_types.proofs.Naming.{within}
 module _ (unions names : List Name) where
   alias_within : (x : Long) (p : ℕ) → alias_place unions names x ≡ Some p → p < length names
   alias_within x p e =
-      by (is_unqualified x) (is_among (own_name x) unions) (place_among (own_name x) names)
+      by (same_name (qualifier_of x) []) (is_among (own_name x) unions) (place_among (own_name x) names)
       (λ q h. within (own_name x) names q h) e
     where
       by : (b d : Bool) (o : Option ℕ) → ((q : ℕ) → o ≡ Some q → q < length names) →

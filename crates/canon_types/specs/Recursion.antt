@@ -9,8 +9,8 @@ use Rattle.elm_canon.specs.Names.{Name, same_name}
 use Rattle.binding_groups.specs.InOrder.{uses_itself}
 use Rattle.canon_env.specs.Exposing.{is_among}
 use Rattle.canon_env.specs.declared.finding.Finding.{Finding}
-use Rattle.canon_sites.specs.Naming.{own_name}
-use Rattle.canon_sites.specs.Sites.{is_unqualified, at_word}
+use Rattle.canon_sites.specs.Naming.{qualifier_of, own_name}
+use Rattle.canon_sites.specs.Sites.{at_word}
 use Rattle.canon_types.specs.Written.{AliasTree, alias_names, names_in}
 
 -- the first place of a name
@@ -24,7 +24,8 @@ place_of_name unions aliases x = if is_among x unions then None else place_among
 
 -- the alias of the module that a written name means, which has no qualifier
 abbrev pub alias_place : List Name → List Name → Long → Option ℕ
-alias_place unions aliases x = if is_unqualified x then place_of_name unions aliases (own_name x) else None
+alias_place unions aliases x =
+    if same_name (qualifier_of x) [] then place_of_name unions aliases (own_name x) else None
 
 abbrev pub uses_of : List Name → List Name → AliasTree → List ℕ
 uses_of unions aliases a = filter_map (alias_place unions aliases) (names_in a.body)

@@ -5,5 +5,5 @@ pub mod aliases;
 pub mod parameters;
 pub mod recursion;
 mod sets;
-mod uses;
+pub mod uses;
 mod variables;

@@ -6,7 +6,7 @@ ghost use Rattle.elm_lexer.specs.Tokens as lexed;
 ghost use Rattle.elm_tree.specs.View as tree;
 ghost use Rattle.elm_tree.specs.View.{word_view, long_view, declaration_view};
 ghost use Rattle.elm_tree.specs.Turns.{tokens_view};
-ghost use Rattle.elm_canon.specs.Names.{Name};
+ghost use Rattle.elm_canon.specs.Names.{Name, same_name};
 ghost use Rattle.decl_groups.specs.Groups.{plain};
 ghost use Rattle.canon_env.specs.Imports.{name_of};
 ghost use Rattle.canon_types.specs.Written.{alias_names, union_name_in, union_names_in};
@@ -16,7 +16,7 @@ ghost use Rattle.canon_types.specs.Kept.{Keeps, aliases_view, places_in, field_p
 use crate::aliases::WrittenAlias;
 use crate::sets::insert;
 use canon_env::import::word_name;
-use canon_scope::long::LongName;
+use canon_sites::long::long_name;
 use elm_lexer::token::Token;
 use elm_names::name::Name;
 use elm_tree::tree::{Declaration, FieldType, TypeTree, Word};
@@ -26,9 +26,16 @@ use std::alloc::{AllocError, Global};
 /// The names of a module's unions, and the places of its aliases among them. To look one up costs the same however
 /// many there are.
 #[derive(Drop)]
-pub(crate) struct OwnNames {
+pub struct OwnNames {
     unions: IndexSet<Name>,
     places: IndexMap<Name, u32>,
+}
+
+/// Whether a name has no units.
+fn is_empty(name: &Name) -> bool
+    ensures { result ≡ same_name name.now [] }
+{
+    name.as_slice().is_empty()
 }
 
 /// The name of the union that a declaration is, if it is one.
@@ -89,7 +96,7 @@ impl OwnNames {
 
     /// The names of the unions among declarations, and of these aliases. The error means that memory ran out; so it
     /// does where there are 2 ^ 32 aliases or more.
-    pub(crate) fn of(
+    pub fn of(
         alloc: Global,
         tokens: &[Token<'_>],
         declarations: &[Declaration],
@@ -111,8 +118,9 @@ impl OwnNames {
         Ok(names)
     }
 
-    /// The place of the alias that the name means.
-    fn place_of_name(&self, name: &Name) -> Option<u32>
+    /// The place of the alias that the name `name` means among the aliases. None: it means none of them, or a union has
+    /// the name too.
+    pub fn place_of_name(&self, name: &Name) -> Option<u32>
         ensures { (unions aliases : List Name) → Keeps self.now unions aliases
             → result ≡ place_of_name unions aliases name.now }
     {
@@ -132,12 +140,11 @@ impl OwnNames {
         ensures { IfOk result (λ p. (unions aliases : List Name) → Keeps self.now unions aliases
             → p ≡ alias_place unions aliases (long_view (tokens_view tokens.now) word)) }
     {
-        let long = LongName::read(alloc, tokens, word)?;
-        if long.is_unqualified {
-            Ok(self.place_of_name(&long.name))
-        } else {
-            Ok(None)
+        let long = long_name(alloc, tokens, word)?;
+        if !is_empty(&long.qualifier) {
+            return Ok(None);
         }
+        Ok(self.place_of_name(&long.name))
     }
 
     /// Adds the place of the alias that the name at a word means.
@@ -241,8 +248,9 @@ fn uses_of_one(
     Ok(places)
 }
 
-/// The places of the aliases that each of these aliases uses, whose names are `names`.
-pub(crate) fn uses_of(
+/// The places of the aliases that each of the aliases `aliases` uses, in turn, by the names `names` of the module. They
+/// are of the text of the tokens `tokens`. The error means that memory ran out.
+pub fn uses_of(
     alloc: Global,
     tokens: &[Token<'_>],
     names: &OwnNames,

@@ -88,3 +88,13 @@ returns-clause-once c =
     ∙ ap plain given in
     once_told (plain uses) (members_of c.loop-members.told.items)
     (subst (IsOrder (plain uses) []) (sym same) c.in_ok-order.ensures)
+
+pub returns-clause-order : goal.returns-clause-order
+returns-clause-order c =
+    let uses = c.args.uses.now in
+    let left = c.loop-members.members-iterator.rest in
+    let given = c.into_iter-members-iterator.ensures.into_iter_gives.0 in
+    let same =
+    all_told c.loop-members.told.items left.items (plain c.into_iter-members-iterator.result.rest.items) c.loop-members.invariant.all (omega (arith, left.ok, c.in-None.ensures.steps.0))
+    ∙ ap plain given in
+    subst (IsOrder (plain uses) []) (sym same) c.in_ok-order.ensures

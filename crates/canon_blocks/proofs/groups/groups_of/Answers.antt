@@ -6,7 +6,7 @@ use Rattle.std.proofs.lemmas.List.{append-nil}
 use Rattle.binding_groups.specs.View.{members_of}
 use Rattle.elm_canon.specs.Tree.{groups_of}
 use Rattle.elm_canon.specs.View.{group_view}
-use Rattle.canon_blocks.specs.Blocks.{group_of, made_at}
+use Rattle.canon_blocks.specs.Blocks.{NoMade, group_of, made_at}
 use Rattle.canon_blocks.specs.Kept.{made_view, taken_each}
 use Rattle.canon_blocks.proofs.Taking.{each_taken, flat_of_map}
 use Rattle.canon_blocks.proofs.groups.groups_of.Goals as goal
@@ -20,8 +20,8 @@ returns c = λ uses o.
     let none = drop_of_length-le order {i = c.loop-group.group-index} (omega (arith, c.deref-group-items.ensures.len, ap length c.deref-group-items.ensures.value)) in
     ap groups_of
     (sym (append-nil groups)
-    ∙ ap (λ gs. groups ++ flat_map group_of (taken_each now (members_of gs))) (sym none)
+    ∙ ap (λ gs. groups ++ flat_map group_of (taken_each NoMade now (members_of gs))) (sym none)
     ∙ c.loop-group.invariant
-    ∙ ap (flat_map group_of) (each_taken made (members_of order) o.once)
-    ∙ flat_of_map made (members_of order)
+    ∙ ap (flat_map group_of) (each_taken NoMade made (members_of order) o.once)
+    ∙ flat_of_map NoMade group_of made (members_of order)
     ∙ ap (flat_map (λ places. group_of (made_at made places))) o.members)

@@ -2,7 +2,7 @@ use Rattle.std.proofs.Common.{◌≡◌, ◌++◌, map, drop}
 use Rattle.std.specs.List.{flat_map}
 use Rattle.elm_canon.specs.View.{group_view}
 use Rattle.binding_groups.specs.View.{members_of}
-use Rattle.canon_blocks.specs.Blocks.{group_of}
+use Rattle.canon_blocks.specs.Blocks.{NoMade, group_of}
 use Rattle.canon_blocks.specs.Kept.{made_view, taken_each}
 use Rattle.canon_blocks.proofs.groups.groups_of.Given as goal
 
@@ -10,5 +10,6 @@ use Rattle.canon_blocks.proofs.groups.groups_of.Given as goal
 abbrev pub invariant-loop-group : goal.invariant-loop-group
 invariant-loop-group l =
     map group_view l.groups.items
-    ++ flat_map group_of (taken_each (map made_view l.made.items) (members_of (drop l.group-index l.order.groups.items)))
-    ≡ flat_map group_of (taken_each (map made_view l.initial.made.items) (members_of l.order.groups.items))
+    ++ flat_map group_of
+    (taken_each NoMade (map made_view l.made.items) (members_of (drop l.group-index l.order.groups.items)))
+    ≡ flat_map group_of (taken_each NoMade (map made_view l.initial.made.items) (members_of l.order.groups.items))

@@ -1,0 +1,21 @@
+-- The order is that of all of the definitions.
+use Rattle.std.proofs.Common.{◌∙◌, subst}
+use Rattle.std.proofs.lemmas.List.{length-map}
+use Rattle.std.proofs.lemmas.Result.{IfOk-weaker}
+use Rattle.decl_groups.specs.Groups.{plain}
+use Rattle.canon_blocks.specs.Kept.{IsOrderOf}
+use Rattle.canon_pattern.proofs.Meaning.{on_ok}
+use Rattle.canon_expr.proofs.gathering.Gathered.finish.Goals as goal
+
+pub returns-clause-groups : goal.returns-clause-groups
+returns-clause-groups c =
+    let uses = c.args.self.uses.items in
+    let ordered = subst (λ us. IsOrderOf c.in_ok-order.order (plain us)) c.deref.ensures.value c.in_ok-order.ensures in
+    IfOk-weaker c.groups_of.result _ _ (λ v e. e (plain uses) ordered) c.groups_of.ensures
+
+pub returns-clause-log : goal.returns-clause-log
+returns-clause-log c =
+    let uses = c.args.self.uses.items in
+    let ordered = subst (λ us. IsOrderOf c.in_ok-order.order (plain us)) c.deref.ensures.value c.in_ok-order.ensures in
+    on_ok c.groups_of.result
+    (λ w. c.in_ok-note_reaching.ensures w (plain uses) ordered (length-map uses _ ∙ c.requires.all))

@@ -1,0 +1,130 @@
+//! Names that come into scope with what binds them.
+
+ghost use Rattle.std.specs.Prelude.{◌≡◌, map, IfOk, OnOk};
+ghost use Rattle.elm_tree.specs.Tree as tree;
+ghost use Rattle.elm_tree.specs.View as tree_view;
+ghost use Rattle.elm_tree.specs.Turns.{tokens_view};
+ghost use Rattle.elm_canon.specs.View.{pattern_view, patterns_view, annotation_view};
+ghost use Rattle.canon_sites.specs.Naming as naming;
+ghost use Rattle.canon_sites.specs.Naming.{IsWorld};
+ghost use Rattle.canon_sites.specs.Locals.{with_names};
+ghost use Rattle.canon_sites.specs.Patterns as spec;
+ghost use Rattle.canon_sites.specs.Types.{type_of, type_sites};
+ghost use Rattle.canon_scope.specs.Scope.{locals_of, without};
+ghost use Rattle.canon_scope.specs.Logs.{Grows};
+ghost use Rattle.canon_pattern.specs.Literals.{AreLiterals};
+ghost use Rattle.canon_blocks.specs.Binding.{bound_in};
+
+use canon_annotation::annotation::annotation;
+use canon_blocks::words::bound_in;
+use canon_env::env::World;
+use canon_pattern::pattern::{pattern, patterns};
+use canon_pattern::words::{words_of, words_of_all};
+use canon_scope::bindings::note_bindings;
+use canon_scope::log::Log;
+use canon_scope::scope::{Entered, Scope};
+use elm_canon::tree::{Annotation, Pattern};
+use elm_lexer::token::Token;
+use elm_tree::tree;
+use elm_tree::tree::{Definition, TypeTree, Word};
+use std::alloc::{AllocError, Global};
+
+/// What a pattern means, and the words of the names that it binds.
+#[derive(Drop)]
+pub(crate) struct BoundPattern {
+    pub(crate) pattern: Pattern,
+    pub(crate) words: Vec<Word>,
+}
+
+/// What the patterns of one list mean, and the words of the names that they bind.
+#[derive(Drop)]
+pub(crate) struct Parameters {
+    pub(crate) patterns: Vec<Pattern>,
+    pub(crate) words: Vec<Word>,
+}
+
+/// What a pattern means. The faults in it are noted, and those of the names that it binds.
+pub(crate) fn bind_pattern(
+    alloc: Global,
+    tokens: &[Token<'_>],
+    world: &World,
+    scope: &Scope,
+    log: &mut Log,
+    written: &tree::Pattern,
+) -> Result<BoundPattern, AllocError>
+    requires { AreLiterals (tokens_view tokens.now) }
+    ensures meaning { IfOk result (λ b. (w : naming.World) → IsWorld world.now w → pattern_view b.pattern
+        ≡ spec.pattern_of w (tree_view.pattern_view (tokens_view tokens.now) written.now)) }
+    ensures words { IfOk result (λ b. tree_view.words_view (tokens_view tokens.now) b.words.items
+        ≡ spec.words_of (tree_view.pattern_view (tokens_view tokens.now) written.now)) }
+    ensures log { OnOk result ((w : naming.World) → IsWorld world.now w → Grows w log.old log.new
+        (spec.pattern_sites (locals_of scope.now)
+        (tree_view.pattern_view (tokens_view tokens.now) written.now))) }
+{
+    let words = words_of(alloc, tokens, written)?;
+    let pattern = pattern(alloc, tokens, world, log, written)?;
+    note_bindings(alloc, tokens, world, scope, log, &words)?;
+    Ok(BoundPattern { pattern, words })
+}
+
+/// What the patterns of one list mean. The faults in them are noted, and those of the names that they bind.
+pub(crate) fn bind_parameters(
+    alloc: Global,
+    tokens: &[Token<'_>],
+    world: &World,
+    scope: &Scope,
+    log: &mut Log,
+    written: &[tree::Pattern],
+) -> Result<Parameters, AllocError>
+    requires { AreLiterals (tokens_view tokens.now) }
+    ensures meaning { IfOk result (λ b. (w : naming.World) → IsWorld world.now w → patterns_view b.patterns.items
+        ≡ spec.patterns_of w (tree_view.patterns_view (tokens_view tokens.now) written.now)) }
+    ensures words { IfOk result (λ b. tree_view.words_view (tokens_view tokens.now) b.words.items
+        ≡ spec.words_of_all (tree_view.patterns_view (tokens_view tokens.now) written.now)) }
+    ensures log { OnOk result ((w : naming.World) → IsWorld world.now w → Grows w log.old log.new
+        (spec.list_sites (locals_of scope.now)
+        (tree_view.patterns_view (tokens_view tokens.now) written.now))) }
+{
+    let words = words_of_all(alloc, tokens, written)?;
+    let patterns = patterns(alloc, tokens, world, log, written)?;
+    note_bindings(alloc, tokens, world, scope, log, &words)?;
+    Ok(Parameters { patterns, words })
+}
+
+/// Brings the names into scope that definitions bind. The faults of these names are noted. The result is for `leave`.
+pub(crate) fn enter_block(
+    alloc: Global,
+    tokens: &[Token<'_>],
+    world: &World,
+    scope: &mut Scope,
+    log: &mut Log,
+    definitions: &[Definition],
+) -> Result<Vec<Entered>, AllocError>
+    ensures names { OnOk result (locals_of scope.new ≡ with_names (bound_in
+        (tree.definitions_of (map (tree_view.definition_view (tokens_view tokens.now)) definitions.now)))
+        (locals_of scope.old)) }
+    ensures entered { IfOk result (λ es. without es.items (locals_of scope.new) ≡ locals_of scope.old) }
+    ensures log { OnOk result ((w : naming.World) → IsWorld world.now w → Grows w log.old log.new
+        (spec.binding_sites (locals_of scope.old) (bound_in
+        (tree.definitions_of (map (tree_view.definition_view (tokens_view tokens.now)) definitions.now))))) }
+{
+    let words = bound_in(alloc, tokens, definitions)?;
+    note_bindings(alloc, tokens, world, scope, log, &words)?;
+    scope.enter(alloc, tokens, &words)
+}
+
+/// What a written type means. The faults in it are noted.
+pub(crate) fn annotated(
+    alloc: Global,
+    tokens: &[Token<'_>],
+    world: &World,
+    log: &mut Log,
+    written: &TypeTree,
+) -> Result<Annotation, AllocError>
+    ensures meaning { IfOk result (λ t. (w : naming.World) → IsWorld world.now w → annotation_view t
+        ≡ type_of w (tree_view.type_view (tokens_view tokens.now) written.now)) }
+    ensures log { OnOk result ((w : naming.World) → IsWorld world.now w → Grows w log.old log.new
+        (type_sites w (tree_view.type_view (tokens_view tokens.now) written.now))) }
+{
+    annotation(alloc, tokens, world, written, &mut log.findings)
+}

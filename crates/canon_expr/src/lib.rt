@@ -1,0 +1,7 @@
+//! What expressions mean, and what is wrong in them, in one walk.
+#![tactic(auto)]
+
+mod binding;
+mod gathering;
+mod records;
+pub mod walk;
