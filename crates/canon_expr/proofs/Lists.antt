@@ -3,7 +3,7 @@ use Rattle.std.proofs.Common.{◌≡◌, List, [], ◌∷◌, ◌++◌, Option, 
 use Rattle.std.proofs.Common.{append-nil, ℕ, take}
 use Rattle.std.specs.List.{flat_map}
 use Rattle.std.proofs.lemmas.Grind.{flat_map-append}
-use Rattle.elm_tree.specs.Tree.{Expr, Word, Definition, Pattern, exprs_of, parts_of, branches_of, definitions_of}
+use Rattle.elm_tree.specs.Tree.{Expr, Word, Definition, exprs_of, parts_of, branches_of, definitions_of}
 use Rattle.elm_tree.specs.View.{WordExpr, BranchView}
 use Rattle.elm_canon.specs.Tree as canon
 use Rattle.elm_canon.specs.Tree.{Annotation}

@@ -150,9 +150,9 @@ pub fn meant(
     callee.finish(alloc)
 }
 
-/// The same, where the names of these words are local.
+/// What the expression `written` means where the names of the words `words` are local too. Otherwise as `meant`.
 #[cycle(meaning)]
-fn scoped(
+pub fn scoped(
     alloc: Global,
     tokens: &[Token<'_>],
     world: &World,

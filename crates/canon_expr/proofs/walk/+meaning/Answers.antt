@@ -12,7 +12,7 @@ use Rattle.elm_tree.specs.Words.{expr_of}
 use Rattle.elm_tree.specs.Turns.{tokens_view}
 use Rattle.elm_tree.proofs.Views as views
 use Rattle.elm_canon.specs.Tree as canon
-use Rattle.elm_canon.specs.View.{expr_view, branch_view, pattern_view, annotation_view}
+use Rattle.elm_canon.specs.View.{expr_view, branch_view, annotation_view}
 use Rattle.elm_canon.proofs.Views as canon_views
 use Rattle.canon_env.proofs.Filtering.{pushed, map_next, map_map_next}
 use Rattle.canon_sites.specs.Locals.{with_names}
@@ -28,7 +28,7 @@ use Rattle.canon_blocks.specs.Binding.{bound_by, bound_by_each, bound_in, used_d
 use Rattle.canon_blocks.specs.Blocks.{groups_in, joined_sites, reaching_sites}
 use Rattle.canon_blocks.specs.Kept.{Binds, made_view}
 use Rattle.canon_blocks.proofs.Listing.{each_bound}
-use Rattle.canon_leaves.specs.Exprs.{expr_sites, meant, callee, definition_sites, made_by}
+use Rattle.canon_leaves.specs.Exprs.{expr_sites, meant, definition_sites, made_by}
 use Rattle.canon_leaves.specs.Exprs.{definitions_sites, made_in, annotation_of, at, meant_parts, part_sites, part_words}
 use Rattle.canon_expr.specs.Records.{base_values, base_sites, record_op}
 use Rattle.canon_env.specs.Imports.{name_of}

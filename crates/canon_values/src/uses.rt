@@ -1,0 +1,71 @@
+//! Which declarations of a module each declaration uses.
+
+ghost use Rattle.std.specs.Prelude.{◌≡◌, ◌<◌, ◌++◌, List, length, map, IfOk, OnOk};
+ghost use Rattle.std.specs.List.{All};
+ghost use Rattle.decl_groups.specs.Groups.{plain};
+ghost use Rattle.elm_canon.specs.Names as names;
+ghost use Rattle.canon_blocks.specs.Kept.{made_view};
+ghost use Rattle.top_uses.specs.Kept.{Numbered};
+ghost use Rattle.canon_values.specs.Items as spec;
+ghost use Rattle.canon_values.specs.Kept.{item_view};
+
+use crate::item::Item;
+use canon_blocks::made::Made;
+use canon_uses::uses::push_uses;
+use elm_canon::reference::Ref;
+use elm_names::name::Name;
+use std::alloc::{AllocError, Global};
+use top_uses::numbers::Numbers;
+
+/// Adds the names of modules that a definition uses.
+fn push_made_uses(made: &Made, uses: &mut Vec<Ref>) -> Result<(), AllocError>
+    ensures { OnOk result (uses.new.items ≡ uses.old.items ++ spec.made_uses (made_view made.now)) }
+{
+    match made {
+        Made::Nothing => Ok(()),
+        Made::Function(_, _, body) => push_uses(body, uses),
+        Made::Constant(_, body) => push_uses(body, uses),
+        Made::Parts(_, body) => push_uses(body, uses),
+    }
+}
+
+/// The declarations that a declaration uses.
+fn used_by(
+    alloc: Global,
+    home: &Name,
+    numbers: &Numbers,
+    item: &Item,
+) -> Result<Vec<u32>, AllocError>
+    ensures used { IfOk result (λ v. (each : List (List names.Name)) → Numbered numbers.now each
+        → v.items ≡ spec.used_in home.now each (item_view item.now)) }
+    ensures within { IfOk result (λ v. (each : List (List names.Name)) → Numbered numbers.now each
+        → All (λ j. j < length each) v.items) }
+{
+    let mut uses = Vec::new(alloc);
+    match item {
+        Item::Port(_, _) => {}
+        Item::Value(made) => push_made_uses(made, &mut uses)?,
+    }
+    numbers.used(alloc, home, &uses)
+}
+
+/// For each declaration of the module `home` the places of those that it uses. `items` says what they mean, and `numbers`
+/// has their numbers. The error means that memory ran out.
+pub fn used_among(
+    alloc: Global,
+    home: &Name,
+    numbers: &Numbers,
+    items: &[Item],
+) -> Result<Vec<Vec<u32>>, AllocError>
+    ensures count { IfOk result (λ v. length v.items ≡ length items.now) }
+    ensures used { IfOk result (λ v. (each : List (List names.Name)) → Numbered numbers.now each
+        → plain v.items ≡ spec.used_among home.now each (map item_view items.now)) }
+    ensures within { IfOk result (λ v. (each : List (List names.Name)) → Numbered numbers.now each
+        → All (λ row. All (λ j. j < length each) row.items) v.items) }
+{
+    let mut rows = Vec::with_capacity(alloc, items.len())?;
+    for item in items {
+        rows.push(used_by(alloc, home, numbers, item)?)?;
+    }
+    Ok(rows)
+}
