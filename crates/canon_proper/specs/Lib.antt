@@ -1,0 +1,5 @@
+pub mod Patterns
+pub mod Worlds
+pub mod Written
+pub mod Narrower
+pub mod Rows

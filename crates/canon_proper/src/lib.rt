@@ -1,0 +1,4 @@
+//! What names give where no fault was found: trees whose names are bound where they are used.
+#![tactic(auto)]
+
+pub mod laws;
