@@ -38,11 +38,7 @@ fn made_by(item: Item) -> Made
 }
 
 /// Takes out the definitions at places, in turn.
-fn take_each(
-    alloc: Global,
-    items: &mut Vec<Item>,
-    members: &[u32],
-) -> Result<Vec<Made>, AllocError>
+fn take_each(alloc: Global, items: &mut Vec<Item>, members: &[u32]) -> Result<Vec<Made>, AllocError>
     ensures taken { IfOk result (λ v. map made_view v.items
         ≡ map spec.made_by (taken_at nothing (map item_view items.old.items) members.now)) }
     ensures left { OnOk result (map item_view items.new.items

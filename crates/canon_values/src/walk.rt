@@ -42,12 +42,7 @@ use elm_tree::tree::{Declaration, Definition, Word};
 use std::alloc::{AllocError, Global};
 
 /// The name of this module that a word spells.
-fn top_name(
-    alloc: Global,
-    tokens: &[Token<'_>],
-    home: &Name,
-    word: Word,
-) -> Result<Ref, AllocError>
+fn top_name(alloc: Global, tokens: &[Token<'_>], home: &Name, word: Word) -> Result<Ref, AllocError>
     ensures { IfOk result (λ r. r ≡ Top home.now (name_of (word_view (tokens_view tokens.now) word))) }
 {
     Ok(Ref::Top(home.clone()?, word_name(alloc, tokens, word)?))
@@ -81,9 +76,7 @@ fn named(
     note_bindings(alloc, tokens, world, &scope, log, &words)?;
     let value = scoped(alloc, tokens, world, &mut scope, log, &words, body)?;
     let title = top_name(alloc, tokens, home, name)?;
-    Ok(made_named(
-        tokens, title, name, before, parameters, meant, body, value,
-    ))
+    Ok(made_named(tokens, title, name, before, parameters, meant, body, value))
 }
 
 /// Notes what is wrong in a pattern and in what it takes apart.
@@ -176,10 +169,7 @@ fn item(
         Declaration::Port(name, written) => {
             *before = None;
             let port = port::resolve(alloc, tokens, world, *name, written, &mut log.findings)?;
-            Ok(Item::Port(
-                top_name(alloc, tokens, home, *name)?,
-                port.known,
-            ))
+            Ok(Item::Port(top_name(alloc, tokens, home, *name)?, port.known))
         }
         Declaration::Union(_, _, _) => {
             *before = None;

@@ -1,5 +1,5 @@
 -- What is no value of its own is never refused: `told`.
-use Rattle.std.proofs.Common.{[], ◌∷◌, refl, sym, ap, ◌∙◌, subst}
+use Rattle.std.proofs.Common.{[], ◌∷◌, sym, ap, subst}
 use Rattle.std.proofs.lemmas.Result.{on_ok_weaker}
 use Rattle.elm_tree.specs.View.{declaration_view}
 use Rattle.elm_tree.specs.Turns.{tokens_view}

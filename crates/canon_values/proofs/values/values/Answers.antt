@@ -1,5 +1,5 @@
 -- The order is that of what the declarations use by what they mean: `top_is`.
-use Rattle.std.proofs.Common.{◌≡◌, ℕ, List, ◌++◌, map, length, refl, sym, ap, ◌∙◌, subst}
+use Rattle.std.proofs.Common.{◌≡◌, ℕ, List, ◌++◌, map, length, sym, ap, ◌∙◌}
 use Rattle.std.specs.List.{flat_map}
 use Rattle.std.proofs.lemmas.List.{length-map}
 use Rattle.decl_groups.specs.Groups.{plain}
