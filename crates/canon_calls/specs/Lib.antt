@@ -3,3 +3,4 @@ pub mod Callees
 pub mod Calls
 pub mod Chains
 pub mod Examples
+pub mod Parts

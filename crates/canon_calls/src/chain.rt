@@ -1,7 +1,8 @@
-//! A chain of operators, worked off from left to right, so that no tree of it is made.
+//! A chain of operators, worked off from left to right. Operators of one level make one chain in the canonical tree, so
+//! that it nests no deeper than there are levels.
 
 ghost use Rattle.std.specs.Prelude.{◌≡◌, ◌∷◌, [], ◌&&◌, map, IfOk, OnOk};
-ghost use Rattle.elm_canon.specs.View.{expr_view};
+ghost use Rattle.elm_canon.specs.View.{expr_view, link_view, linked};
 ghost use Rattle.elm_tree.specs.View.{word_view};
 ghost use Rattle.elm_tree.specs.Turns.{tokens_view};
 ghost use Rattle.elm_tree.specs.Regroup.{may_stand_left, is_left};
@@ -10,11 +11,11 @@ ghost use Rattle.canon_calls.specs.Callees as spec;
 ghost use Rattle.canon_calls.specs.Calls.{callee_view};
 ghost use Rattle.canon_calls.specs.Chains.{waiting_view, operand_view, closed, waits_on, reached};
 
-use crate::callee::Callee;
+use crate::callee::{Callee, Opened};
 use crate::operators::{Between, core_function, effect_of};
 use canon_env::finding::place_at;
 use elm_base::position::Pos;
-use elm_canon::tree::{Connective, Expr, Op, Operator};
+use elm_canon::tree::{Connective, Expr, Link, Op, Operator};
 use elm_lexer::token::Token;
 use elm_tree::operator::Side;
 use elm_tree::tree::Word;
@@ -35,40 +36,37 @@ pub struct Operand {
     pub callee: Callee,
 }
 
+/// An operand as the first of a chain.
+fn opened(alloc: Global, operand: Callee) -> Result<Opened, AllocError>
+    ensures { IfOk result (λ o. linked (expr_view o.first.value) (map link_view o.links.items)
+        ≡ spec.finished (callee_view operand)) }
+{
+    Opened::of(alloc, operand.finish(alloc)?)
+}
+
 /// A call with one argument more.
 fn with_argument(alloc: Global, function: Callee, argument: Callee) -> Result<Callee, AllocError>
     ensures { IfOk result (λ c. callee_view c
         ≡ spec.with_arguments (callee_view function) (spec.finished (callee_view argument) ∷ [])) }
 {
-    function.push(argument.finish(alloc)?)
+    let argument = opened(alloc, argument)?;
+    function.push(argument.close())
 }
 
-/// Two expressions in turn.
-fn pair(alloc: Global, left: Expr, right: Expr) -> Result<Vec<Expr>, AllocError>
-    ensures { IfOk result (λ v. v.items ≡ left ∷ right ∷ []) }
+/// One expression as a list.
+fn one(alloc: Global, expr: Expr) -> Result<Vec<Expr>, AllocError>
+    ensures { IfOk result (λ v. v.items ≡ expr ∷ []) }
 {
-    Ok(vec![in alloc; left, right]?)
+    Ok(vec![in alloc; expr]?)
 }
 
-/// An operand on the heap.
-fn boxed(alloc: Global, operand: Callee) -> Result<Box<Expr>, AllocError>
-    ensures { IfOk result (λ b. expr_view b.value ≡ spec.finished (callee_view operand)) }
-{
-    Ok(Box::new(alloc, operand.finish(alloc)?)?)
-}
-
-/// Two operands in turn.
-fn both(alloc: Global, left: Callee, right: Callee) -> Result<Vec<Expr>, AllocError>
-    ensures { IfOk result (λ v. map expr_view v.items
-        ≡ spec.finished (callee_view left) ∷ spec.finished (callee_view right) ∷ []) }
-{
-    let left = left.finish(alloc)?;
-    let right = right.finish(alloc)?;
-    pair(alloc, left, right)
+/// Whether a chain of the operator goes on to its right.
+fn goes_right(operator: Operator) -> bool {
+    matches!(operator, Operator::Append | Operator::Cons)
 }
 
 /// What computes with both operands.
-#[tactic(auto, using(elm_canon::proofs::Views::strict))]
+#[tactic(auto, using(elm_canon::proofs::Views::part_after, elm_canon::proofs::Views::part_before))]
 fn computed(
     alloc: Global,
     place: Pos,
@@ -79,12 +77,19 @@ fn computed(
     ensures { IfOk result (λ c. callee_view c ≡ spec.plain (spec.computed place operator
         (spec.finished (callee_view left)) (spec.finished (callee_view right)))) }
 {
-    let operands = both(alloc, left, right)?;
-    Ok(Callee::plain(alloc, Expr::Strict(Op::Binary(place, operator), operands)))
+    let op = Op::Binary(place, operator);
+    let expr = if goes_right(operator) {
+        let left = one(alloc, left.finish(alloc)?)?;
+        opened(alloc, right)?.then(Link::After(op, left))?
+    } else {
+        let right = right.finish(alloc)?;
+        opened(alloc, left)?.then(Link::Before(op, right))?
+    };
+    Ok(Callee::plain(alloc, expr))
 }
 
 /// What may pass over its right operand.
-#[tactic(auto, using(elm_canon::proofs::Views::logical))]
+#[tactic(auto, using(elm_canon::proofs::Views::decided))]
 fn decided(
     alloc: Global,
     place: Pos,
@@ -95,13 +100,32 @@ fn decided(
     ensures { IfOk result (λ c. callee_view c ≡ spec.plain (spec.decided place connective
         (spec.finished (callee_view left)) (spec.finished (callee_view right)))) }
 {
-    let left = boxed(alloc, left)?;
-    let right = boxed(alloc, right)?;
-    Ok(Callee::plain(alloc, Expr::Logical(place, connective, left, right)))
+    let left = left.finish(alloc)?;
+    let expr = opened(alloc, right)?.then(Link::Decided(place, connective, left))?;
+    Ok(Callee::plain(alloc, expr))
+}
+
+/// What calls a function with both operands, the left one as the first of a chain.
+#[tactic(auto, using(elm_canon::proofs::Views::composed))]
+fn composed(alloc: Global, function: Expr, left: Callee, right: Callee) -> Result<Expr, AllocError>
+    ensures { IfOk result (λ e. expr_view e ≡ spec.called (expr_view function)
+        (spec.finished (callee_view left)) (spec.finished (callee_view right))) }
+{
+    let right = right.finish(alloc)?;
+    opened(alloc, left)?.then(Link::Composed(function, right))
+}
+
+/// The same, with the right one as the first.
+#[tactic(auto, using(elm_canon::proofs::Views::given))]
+fn applied(alloc: Global, function: Expr, left: Callee, right: Callee) -> Result<Expr, AllocError>
+    ensures { IfOk result (λ e. expr_view e ≡ spec.called (expr_view function)
+        (spec.finished (callee_view left)) (spec.finished (callee_view right))) }
+{
+    let left = one(alloc, left.finish(alloc)?)?;
+    opened(alloc, right)?.then(Link::Given(function, left))
 }
 
 /// What calls the function of an operator with both operands.
-#[tactic(auto, using(elm_canon::proofs::Views::apply))]
 fn called(
     alloc: Global,
     tokens: &[Token<'_>],
@@ -113,9 +137,12 @@ fn called(
         ≡ spec.plain (spec.called (function_of (word_view (tokens_view tokens.now) operator))
         (spec.finished (callee_view left)) (spec.finished (callee_view right)))) }
 {
-    let operands = both(alloc, left, right)?;
-    let function = Box::new(alloc, core_function(alloc, tokens, operator)?)?;
-    Ok(Callee::plain(alloc, Expr::Apply(function, operands)))
+    let function = core_function(alloc, tokens, operator)?;
+    let expr = match strength_at(tokens, operator).side {
+        Side::ToLeft => composed(alloc, function, left, right)?,
+        _ => applied(alloc, function, left, right)?,
+    };
+    Ok(Callee::plain(alloc, expr))
 }
 
 /// Two operands, joined by an operator.

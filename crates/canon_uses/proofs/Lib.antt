@@ -1,2 +1,3 @@
 -- one expression, branch, group or function more
 pub mod Adding
+pub mod Linking

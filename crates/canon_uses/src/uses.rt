@@ -1,13 +1,14 @@
 //! The names of modules that an expression uses.
 
-ghost use Rattle.std.specs.Prelude.{◌≡◌, ◌++◌, map, OnOk};
+ghost use Rattle.std.specs.Prelude.{◌≡◌, ◌++◌, map, flat_map, OnOk};
 ghost use Rattle.elm_canon.specs.Tree.{exprs_of, branches_of, groups_of, functions_of};
-ghost use Rattle.elm_canon.specs.View.{expr_view, branch_view, group_view, function_view};
+ghost use Rattle.elm_canon.specs.View.{expr_view, link_view, branch_view, group_view, function_view};
 ghost use Rattle.canon_uses.specs.Uses.{ref_uses, expr_uses, exprs_uses, branches_uses, groups_uses, group_uses};
 ghost use Rattle.canon_uses.specs.Uses.{functions_uses};
+ghost use Rattle.canon_uses.specs.Links.{before, before_all, after};
 
 use elm_canon::reference::Ref;
-use elm_canon::tree::{Branch, Expr, Function, Group};
+use elm_canon::tree::{Branch, Expr, Function, Group, Link};
 use std::alloc::AllocError;
 
 /// Adds a name, if it is one of a module.
@@ -43,9 +44,10 @@ pub fn push_uses(expr: &Expr, uses: &mut Vec<Ref>) -> Result<(), AllocError>
             push_uses(yes, uses)?;
             push_uses(no, uses)
         }
-        Expr::Logical(_, _, left, right) => {
-            push_uses(left, uses)?;
-            push_uses(right, uses)
+        Expr::Chain(first, links) => {
+            push_before(links, uses)?;
+            push_uses(first, uses)?;
+            push_after(links, uses)
         }
         Expr::Let(groups, body) => {
             push_groups(groups, uses)?;
@@ -68,6 +70,59 @@ fn push_all(exprs: &[Expr], uses: &mut Vec<Ref>) -> Result<(), AllocError>
         push_uses(expr, uses)?;
     }
     Ok(())
+}
+
+/// Adds the names that stand before an expression with which these things are done: those of the last come first.
+#[cycle(uses)]
+fn push_before(links: &[Link], uses: &mut Vec<Ref>) -> Result<(), AllocError>
+    ensures { OnOk result (uses.new.items ≡ uses.old.items ++ before_all (map link_view links.now)) }
+{
+    for link in links.iter().rev() {
+        push_one_before(link, uses)?;
+    }
+    Ok(())
+}
+
+/// Those of one thing.
+#[cycle(uses)]
+fn push_one_before(link: &Link, uses: &mut Vec<Ref>) -> Result<(), AllocError>
+    ensures { OnOk result (uses.new.items ≡ uses.old.items ++ before (link_view link.now)) }
+{
+    match link {
+        Link::Given(function, arguments) => {
+            push_uses(function, uses)?;
+            push_all(arguments, uses)
+        }
+        Link::Composed(function, _) => push_uses(function, uses),
+        Link::After(_, parts) => push_all(parts, uses),
+        Link::Before(_, _) => Ok(()),
+        Link::Decided(_, _, left) => push_uses(left, uses),
+    }
+}
+
+/// Adds the names that stand after an expression with which these things are done.
+#[cycle(uses)]
+fn push_after(links: &[Link], uses: &mut Vec<Ref>) -> Result<(), AllocError>
+    ensures { OnOk result (uses.new.items ≡ uses.old.items ++ flat_map after (map link_view links.now)) }
+{
+    for link in links {
+        push_one_after(link, uses)?;
+    }
+    Ok(())
+}
+
+/// Those of one thing.
+#[cycle(uses)]
+fn push_one_after(link: &Link, uses: &mut Vec<Ref>) -> Result<(), AllocError>
+    ensures { OnOk result (uses.new.items ≡ uses.old.items ++ after (link_view link.now)) }
+{
+    match link {
+        Link::Given(_, _) => Ok(()),
+        Link::Composed(_, right) => push_uses(right, uses),
+        Link::After(_, _) => Ok(()),
+        Link::Before(_, right) => push_uses(right, uses),
+        Link::Decided(_, _, _) => Ok(()),
+    }
 }
 
 /// Adds the names that the bodies of branches use.

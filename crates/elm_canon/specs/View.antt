@@ -1,6 +1,8 @@
 -- What a tree of the program is.
-use Rattle.std.specs.Prelude.{List, [], ◌∷◌, map, length, Option, Some, None, option_map}
+use Rattle.std.specs.Prelude.{List, [], ◌∷◌, ◌++◌, map, length, Option, Some, None, option_map}
+use Rattle.elm_base.specs.declared.position.Pos.{Pos}
 use Rattle.elm_canon.specs.Names.{Name}
+use Rattle.elm_canon.specs.declared.tree.Connective.{Connective}
 use Rattle.elm_canon.specs.Unions.{TupleUnion, ListUnion, tuple_alternative, nil_alternative, cons_alternative}
 use Rattle.elm_canon.specs.Tree as plain
 use Rattle.elm_canon.specs.Tree.{annotations_of, field_types_of, patterns_of, exprs_of, branches_of, groups_of}
@@ -14,7 +16,8 @@ use Rattle.elm_canon.specs.declared.tree.Op.{Op}
 use Rattle.elm_canon.specs.declared.tree.Op.TheVariants as op
 use Rattle.elm_canon.specs.declared.tree.Title.{Title}
 use Rattle.elm_canon.specs.declared.tree.Expr.{Expr, fold-Expr}
-use Rattle.elm_canon.specs.declared.tree.Expr.TheOpen.{Expr-F, Branch-F, Group-F, Function-F}
+use Rattle.elm_canon.specs.declared.tree.Expr.TheOpen.{Expr-F, Link-F, Branch-F, Group-F, Function-F}
+use Rattle.elm_canon.specs.declared.tree.Link.{Link, fold-Link}
 use Rattle.elm_canon.specs.declared.tree.Branch.{Branch, fold-Branch}
 use Rattle.elm_canon.specs.declared.tree.Group.{Group, fold-Group}
 use Rattle.elm_canon.specs.declared.tree.Function.{Function, fold-Function}
@@ -120,13 +123,34 @@ abbrev pub accessed : plain.Expr → List Name → plain.Expr
 accessed e [] = e
 accessed e (x ∷ xs) = accessed (plain.Strict (plain.Access x) (plain.MoreExpr e plain.NoExpr)) xs
 
+-- what is done with an expression: it is the last argument of a function, or the first; it is the last part, or the
+-- first; it is on the right of `&&` or `||`
+pub data LinkView : Type 0 where
+  Given : plain.Expr → List plain.Expr → LinkView
+  Composed : plain.Expr → plain.Expr → LinkView
+  After : plain.Op → List plain.Expr → LinkView
+  Before : plain.Op → plain.Expr → LinkView
+  Decided : Pos → Connective → plain.Expr → LinkView
+
+abbrev pub done : LinkView → plain.Expr → plain.Expr
+done (Given f es) e = plain.Apply f (exprs_of (es ++ e ∷ []))
+done (Composed f a) e = plain.Apply f (exprs_of (e ∷ a ∷ []))
+done (After o es) e = plain.Strict o (exprs_of (es ++ e ∷ []))
+done (Before o a) e = plain.Strict o (exprs_of (e ∷ a ∷ []))
+done (Decided place c a) e = plain.Logical place c a e
+
+-- one after the other
+abbrev pub linked : plain.Expr → List LinkView → plain.Expr
+linked e [] = e
+linked e (l ∷ ls) = linked (done l e) ls
+
 abbrev pub BranchView : Type 0
 BranchView = plain.Pattern × plain.Expr
 
 abbrev pub FunctionView : Type 0
 FunctionView = plain.Title × plain.Patterns × plain.Expr
 
-abbrev pub expr_step : Expr-F plain.Expr plain.Group BranchView FunctionView → plain.Expr
+abbrev pub expr_step : Expr-F plain.Expr plain.Group LinkView BranchView FunctionView → plain.Expr
 expr_step (Expr-F.Literal l) = plain.Is l
 expr_step (Expr-F.Name x) = plain.NameOf x
 expr_step (Expr-F.Accessor x) = plain.Accessor x
@@ -135,34 +159,53 @@ expr_step (Expr-F.Apply f es) = plain.Apply f.value (exprs_of es.items)
 expr_step (Expr-F.Strict o es) = plain.Strict (op_view o) (exprs_of es.items)
 expr_step (Expr-F.Access e xs) = accessed e.value xs.items
 expr_step (Expr-F.If c a b) = plain.If c.value a.value b.value
-expr_step (Expr-F.Logical place c a b) = plain.Logical place c a.value b.value
+expr_step (Expr-F.Chain e ls) = linked e.value ls.items
 expr_step (Expr-F.Let gs e) = plain.Let (groups_of gs.items) e.value
 expr_step (Expr-F.Case e bs) = plain.Case e.value (branches_of bs.items)
 expr_step (Expr-F.Located place e) = plain.Located place e.value
 
-abbrev pub branch_step : Branch-F plain.Expr plain.Group BranchView FunctionView → BranchView
+abbrev pub link_step : Link-F plain.Expr plain.Group LinkView BranchView FunctionView → LinkView
+link_step (Link-F.Given f es) = Given f es.items
+link_step (Link-F.Composed f a) = Composed f a
+link_step (Link-F.After o es) = After (op_view o) es.items
+link_step (Link-F.Before o a) = Before (op_view o) a
+link_step (Link-F.Decided place c a) = Decided place c a
+
+abbrev pub branch_step : Branch-F plain.Expr plain.Group LinkView BranchView FunctionView → BranchView
 branch_step b = (pattern_view b.pattern, b.body)
 
-abbrev pub group_step : Group-F plain.Expr plain.Group BranchView FunctionView → plain.Group
+abbrev pub group_step : Group-F plain.Expr plain.Group LinkView BranchView FunctionView → plain.Group
 group_step (Group-F.Together fs) = plain.Together (functions_of fs.items)
 group_step (Group-F.Constant t e) = plain.Constant (title_view t) e
 group_step (Group-F.Destructure p e) = plain.Destructure (pattern_view p) e
 
-abbrev pub function_step : Function-F plain.Expr plain.Group BranchView FunctionView → FunctionView
+abbrev pub function_step : Function-F plain.Expr plain.Group LinkView BranchView FunctionView → FunctionView
 function_step f = (title_view f.title, patterns_view f.parameters.items, f.body)
 
 unfoldable pub expr_view : Expr → plain.Expr
-expr_view = fold-Expr plain.Expr plain.Group BranchView FunctionView expr_step group_step branch_step function_step
+expr_view =
+    fold-Expr plain.Expr plain.Group LinkView BranchView FunctionView expr_step group_step link_step branch_step
+    function_step
+
+unfoldable pub link_view : Link → LinkView
+link_view =
+    fold-Link plain.Expr plain.Group LinkView BranchView FunctionView expr_step group_step link_step branch_step
+    function_step
 
 unfoldable pub branch_view : Branch → BranchView
-branch_view = fold-Branch plain.Expr plain.Group BranchView FunctionView expr_step group_step branch_step function_step
+branch_view =
+    fold-Branch plain.Expr plain.Group LinkView BranchView FunctionView expr_step group_step link_step branch_step
+    function_step
 
 unfoldable pub group_view : Group → plain.Group
-group_view = fold-Group plain.Expr plain.Group BranchView FunctionView expr_step group_step branch_step function_step
+group_view =
+    fold-Group plain.Expr plain.Group LinkView BranchView FunctionView expr_step group_step link_step branch_step
+    function_step
 
 unfoldable pub function_view : Function → FunctionView
 function_view =
-    fold-Function plain.Expr plain.Group BranchView FunctionView expr_step group_step branch_step function_step
+    fold-Function plain.Expr plain.Group LinkView BranchView FunctionView expr_step group_step link_step branch_step
+    function_step
 
 -- ---- what is declared without a body
 
@@ -224,8 +267,8 @@ declaration_view (declaration.Declaration.Define g) = plain.Define (group_view g
 abbrev pub module_view : Module → plain.Module
 module_view m = record {
   name = m.name;
-  unions = map union_declaration_view m.unions.items;
-  aliases = map alias_declaration_view m.aliases.items;
+  unions = map (λ u. union_declaration_view u.value) m.unions.items;
+  aliases = map (λ a. alias_declaration_view a.value) m.aliases.items;
   ports = map port_declaration_view m.ports.items;
   declarations = map declaration_view m.declarations.items;
 }

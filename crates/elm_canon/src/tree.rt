@@ -131,19 +131,35 @@ pub enum Expr {
     /// `.x`
     Accessor(Name),
     Lambda(Vec<Pattern>, Box<Expr>),
-    /// A function and its arguments in turn. `x |> f`, `f <| x`, `a ^ b`, `f << g` and `f >> g` are such.
+    /// A function and its arguments in turn.
     Apply(Box<Expr>, Vec<Expr>),
     /// The parts from left to right, and then one thing with their values.
     Strict(Op, Vec<Expr>),
     /// `a.x.y`
     Access(Box<Expr>, Vec<Name>),
     If(Box<Expr>, Box<Expr>, Box<Expr>),
-    /// `a && b` or `a || b`, whose operator stands there.
-    Logical(Pos, Connective, Box<Expr>, Box<Expr>),
+    /// An expression, and what is done with it in turn: a chain of operators, however long it is.
+    Chain(Box<Expr>, Vec<Link>),
     Let(Vec<Group>, Box<Expr>),
     Case(Box<Expr>, Vec<Branch>),
     /// An expression, and where it begins.
     Located(Pos, Box<Expr>),
+}
+
+/// What is done with an expression `_`.
+#[cycle(exprs)]
+#[derive(Drop)]
+pub enum Link {
+    /// `f a _`: it is the last argument of a function. `_ |> f a`, `f a <| _`, `a ^ _` and `a << _` are such.
+    Given(Expr, Vec<Expr>),
+    /// `f _ a`: it is the first argument of a function. `_ >> a` is such.
+    Composed(Expr, Expr),
+    /// It is the last part, after these: `C a _` and `a :: _`.
+    After(Op, Vec<Expr>),
+    /// It is the first part, before this: `_ + a`.
+    Before(Op, Expr),
+    /// `a && _` or `a || _`, whose operator stands there.
+    Decided(Pos, Connective, Expr),
 }
 
 /// A branch of a `case`.
@@ -250,12 +266,13 @@ pub enum Declaration {
     Define(Group),
 }
 
-/// A module. Its declarations are the constructors in written order, and then the groups of values, ports among them.
+/// A module, whose types those that import it share. Its declarations are the constructors in written order, and then
+/// the groups of values, ports among them.
 #[derive(Drop)]
 pub struct Module {
     pub name: Name,
-    pub unions: Vec<UnionDeclaration>,
-    pub aliases: Vec<AliasDeclaration>,
+    pub unions: Vec<Arc<UnionDeclaration, Global>>,
+    pub aliases: Vec<Arc<AliasDeclaration, Global>>,
     pub ports: Vec<PortDeclaration>,
     pub declarations: Vec<Declaration>,
 }

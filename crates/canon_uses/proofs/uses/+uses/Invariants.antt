@@ -1,7 +1,8 @@
-use Rattle.std.proofs.Common.{◌≡◌, ◌++◌, map, take}
+use Rattle.std.proofs.Common.{◌≡◌, ◌++◌, map, flat_map, take}
 use Rattle.elm_canon.specs.Tree.{exprs_of, branches_of, groups_of, functions_of}
-use Rattle.elm_canon.specs.View.{expr_view, branch_view, group_view, function_view}
+use Rattle.elm_canon.specs.View.{expr_view, link_view, branch_view, group_view, function_view}
 use Rattle.canon_uses.specs.Uses.{exprs_uses, branches_uses, groups_uses, functions_uses}
+use Rattle.canon_uses.specs.Links.{before, after}
 use Rattle.canon_uses.proofs.uses.+uses.Given as goal
 
 abbrev pub invariant-push_all-loop-expr : goal.invariant-push_all-loop-expr
@@ -20,3 +21,11 @@ abbrev pub invariant-push_functions-loop-function : goal.invariant-push_function
 invariant-push_functions-loop-function l =
     l.uses.items
     ≡ l.initial.uses.items ++ functions_uses (functions_of (map function_view (take l.function-index l.functions)))
+
+abbrev pub invariant-push_before-loop-link : goal.invariant-push_before-loop-link
+invariant-push_before-loop-link l =
+    l.uses.items ≡ l.initial.uses.items ++ flat_map (λ y. before (link_view y.now)) l.yielded
+
+abbrev pub invariant-push_after-loop-link : goal.invariant-push_after-loop-link
+invariant-push_after-loop-link l =
+    l.uses.items ≡ l.initial.uses.items ++ flat_map after (map link_view (take l.link-index l.links))
