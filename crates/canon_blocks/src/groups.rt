@@ -27,8 +27,10 @@ fn take_one(made: &mut Vec<Made>, at: usize) -> Made
 
 /// Takes out what stands at places, in turn.
 fn take_each(alloc: Global, made: &mut Vec<Made>, members: &[u32]) -> Result<Vec<Made>, AllocError>
-    ensures taken { IfOk result (λ v. map made_view v.items ≡ taken_at spec.NoMade (map made_view made.old.items) members.now) }
-    ensures left { OnOk result (map made_view made.new.items ≡ left_after spec.NoMade (map made_view made.old.items) members.now) }
+    ensures taken { IfOk result (λ v. map made_view v.items
+        ≡ taken_at spec.NoMade (map made_view made.old.items) members.now) }
+    ensures left { OnOk result (map made_view made.new.items
+        ≡ left_after spec.NoMade (map made_view made.old.items) members.now) }
 {
     let mut taken = Vec::new(alloc);
     for member in members {
@@ -112,7 +114,8 @@ fn push_group(
 ) -> Result<(), AllocError>
     ensures groups { OnOk result (map group_view groups.new.items ≡ map group_view groups.old.items
         ++ spec.group_of (taken_at spec.NoMade (map made_view made.old.items) members.now)) }
-    ensures left { OnOk result (map made_view made.new.items ≡ left_after spec.NoMade (map made_view made.old.items) members.now) }
+    ensures left { OnOk result (map made_view made.new.items
+        ≡ left_after spec.NoMade (map made_view made.old.items) members.now) }
 {
     if members.len() == 1 {
         return push_one(alloc, take_one(made, members[0] as usize), groups);

@@ -13,10 +13,3 @@ pub enum Made {
     /// A pattern, and what it takes apart.
     Parts(Pattern, Expr),
 }
-
-/// The definitions of a block: for each the places of those that it uses, and what it means.
-#[derive(Drop)]
-pub struct Block {
-    pub uses: Vec<Vec<u32>>,
-    pub made: Vec<Made>,
-}

@@ -23,6 +23,11 @@ pub joined_next : (each : List (List Site)) (sites : List Site) →
 joined_next each sites =
     flat_map-append (λ sites. sites) each (sites ∷ []) ∙ ap (λ r. joined_sites each ++ r) (append-nil sites)
 
+-- one more, where it is known what stands before it and what it is
+pub one_more : {X : Type 0} {new old before : List X} {x y : X} → new ≡ old ++ x ∷ [] → old ≡ before → x ≡ y →
+    new ≡ before ++ y ∷ []
+one_more {old = old} {before = before} {x = x} e h g = e ∙ ap (λ l. l ++ x ∷ []) h ∙ ap (λ z. before ++ z ∷ []) g
+
 module _ (w : World) (locals : Locals) where
   pub each_meant : (es : List Expr) → meant_each w locals (exprs_of es) ≡ map (meant w locals) es
   each_meant [] = refl

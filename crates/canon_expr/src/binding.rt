@@ -1,6 +1,6 @@
 //! Names that come into scope with what binds them.
 
-ghost use Rattle.std.specs.Prelude.{◌≡◌, map, IfOk, OnOk};
+ghost use Rattle.std.specs.Prelude.{◌≡◌, Some, map, option_map, IfOk, OnOk};
 ghost use Rattle.elm_tree.specs.Tree as tree;
 ghost use Rattle.elm_tree.specs.View as tree_view;
 ghost use Rattle.elm_tree.specs.Turns.{tokens_view};
@@ -32,7 +32,7 @@ use std::alloc::{AllocError, Global};
 /// What a pattern means, and the words of the names that it binds.
 #[derive(Drop)]
 pub(crate) struct BoundPattern {
-    pub(crate) pattern: Pattern,
+    pub(crate) pattern: Box<Pattern>,
     pub(crate) words: Vec<Word>,
 }
 
@@ -41,6 +41,23 @@ pub(crate) struct BoundPattern {
 pub(crate) struct Parameters {
     pub(crate) patterns: Vec<Pattern>,
     pub(crate) words: Vec<Word>,
+}
+
+/// What a pattern means, in a box. The faults in it are noted.
+pub(crate) fn boxed_pattern(
+    alloc: Global,
+    tokens: &[Token<'_>],
+    world: &World,
+    log: &mut Log,
+    written: &tree::Pattern,
+) -> Result<Box<Pattern>, AllocError>
+    requires { AreLiterals (tokens_view tokens.now) }
+    ensures meaning { IfOk result (λ p. (w : naming.World) → IsWorld world.now w → pattern_view p.value
+        ≡ spec.pattern_of w (tree_view.pattern_view (tokens_view tokens.now) written.now)) }
+    ensures log { OnOk result ((w : naming.World) → IsWorld world.now w → Grows w log.old log.new
+        (spec.match_sites (tree_view.pattern_view (tokens_view tokens.now) written.now))) }
+{
+    Ok(Box::new(alloc, pattern(alloc, tokens, world, log, written)?)?)
 }
 
 /// What a pattern means. The faults in it are noted, and those of the names that it binds.
@@ -53,7 +70,7 @@ pub(crate) fn bind_pattern(
     written: &tree::Pattern,
 ) -> Result<BoundPattern, AllocError>
     requires { AreLiterals (tokens_view tokens.now) }
-    ensures meaning { IfOk result (λ b. (w : naming.World) → IsWorld world.now w → pattern_view b.pattern
+    ensures meaning { IfOk result (λ b. (w : naming.World) → IsWorld world.now w → pattern_view b.pattern.value
         ≡ spec.pattern_of w (tree_view.pattern_view (tokens_view tokens.now) written.now)) }
     ensures words { IfOk result (λ b. tree_view.words_view (tokens_view tokens.now) b.words.items
         ≡ spec.words_of (tree_view.pattern_view (tokens_view tokens.now) written.now)) }
@@ -62,7 +79,7 @@ pub(crate) fn bind_pattern(
         (tree_view.pattern_view (tokens_view tokens.now) written.now))) }
 {
     let words = words_of(alloc, tokens, written)?;
-    let pattern = pattern(alloc, tokens, world, log, written)?;
+    let pattern = boxed_pattern(alloc, tokens, world, log, written)?;
     note_bindings(alloc, tokens, world, scope, log, &words)?;
     Ok(BoundPattern { pattern, words })
 }
@@ -113,18 +130,20 @@ pub(crate) fn enter_block(
     scope.enter(alloc, tokens, &words)
 }
 
-/// What a written type means. The faults in it are noted.
-pub(crate) fn annotated(
+/// Keeps what a written type means as the annotation `before`. The faults in it are noted.
+pub(crate) fn annotate(
     alloc: Global,
     tokens: &[Token<'_>],
     world: &World,
     log: &mut Log,
     written: &TypeTree,
-) -> Result<Annotation, AllocError>
-    ensures meaning { IfOk result (λ t. (w : naming.World) → IsWorld world.now w → annotation_view t
-        ≡ type_of w (tree_view.type_view (tokens_view tokens.now) written.now)) }
+    before: &mut Option<Annotation>,
+) -> Result<(), AllocError>
+    ensures meaning { OnOk result ((w : naming.World) → IsWorld world.now w → option_map annotation_view before.new
+        ≡ Some (type_of w (tree_view.type_view (tokens_view tokens.now) written.now))) }
     ensures log { OnOk result ((w : naming.World) → IsWorld world.now w → Grows w log.old log.new
         (type_sites w (tree_view.type_view (tokens_view tokens.now) written.now))) }
 {
-    annotation(alloc, tokens, world, written, &mut log.findings)
+    *before = Some(annotation(alloc, tokens, world, written, &mut log.findings)?);
+    Ok(())
 }

@@ -2,6 +2,7 @@
 #![tactic(auto)]
 
 mod binding;
+mod boxes;
 mod gathering;
 mod records;
 pub mod walk;

@@ -22,20 +22,22 @@ ghost use Rattle.canon_leaves.specs.Exprs as spec;
 ghost use Rattle.canon_expr.specs.Walking.{StandsIn};
 
 use crate::binding::{
-    BoundPattern, Parameters, annotated, bind_parameters, bind_pattern, enter_block,
+    BoundPattern, Parameters, annotate, bind_parameters, bind_pattern, boxed_pattern, enter_block,
+};
+use crate::boxes::{
+    applied, boxed, chained, defined_by, finished, forget, parts_of, push_branch, push_finished,
+    push_operand,
 };
 use crate::gathering::Gathered;
 use crate::records::{base_values, record_of};
 use canon_blocks::made::Made;
-use canon_blocks::titles::made_of;
 use canon_calls::callee::Callee;
-use canon_calls::chain::{Operand, chain};
+use canon_calls::chain::Operand;
 use canon_env::env::World;
 use canon_leaves::fields::accessed;
 use canon_leaves::forms::{case_of, conditional, lambda, let_in, negated, strict_at};
 use canon_leaves::leaves::one_word;
 use canon_leaves::uses::note_operator;
-use canon_pattern::pattern::pattern;
 use canon_scope::log::Log;
 use canon_scope::scope::Scope;
 use elm_canon::tree::{Annotation, Branch, Expr, Group, Op};
@@ -74,13 +76,15 @@ pub fn callee(
         }
         tree::Expr::Apply(function, arguments) => {
             let function = callee(alloc, tokens, world, scope, log, function)?;
+            let function = boxed(alloc, function)?;
             let arguments = meant_each(alloc, tokens, world, scope, log, arguments)?;
-            function.extend(arguments)
+            applied(function, arguments)
         }
         tree::Expr::Chain(first, parts) => {
             let first = callee(alloc, tokens, world, scope, log, first)?;
+            let first = boxed(alloc, first)?;
             let operands = operands(alloc, tokens, world, scope, log, parts)?;
-            chain(alloc, tokens, first, operands)
+            chained(alloc, tokens, first, operands)
         }
         tree::Expr::List(first, items) => {
             let items = meant_each(alloc, tokens, world, scope, log, items)?;
@@ -103,7 +107,7 @@ pub fn callee(
             let condition = meant(alloc, tokens, world, scope, log, condition)?;
             let yes = meant(alloc, tokens, world, scope, log, yes)?;
             let no = meant(alloc, tokens, world, scope, log, no)?;
-            conditional(alloc, condition, yes, no)
+            Ok(conditional(alloc, condition, yes, no))
         }
         tree::Expr::Case(first, subject, branches) => {
             let subject = meant(alloc, tokens, world, scope, log, subject)?;
@@ -115,7 +119,7 @@ pub fn callee(
             let groups = defined(alloc, tokens, world, scope, log, definitions)?;
             let body = meant(alloc, tokens, world, scope, log, body)?;
             scope.leave(entered)?;
-            let_in(alloc, groups, body)
+            Ok(let_in(alloc, groups, body))
         }
         tree::Expr::Lambda(first, parameters, body) => {
             let Parameters { patterns, words } = bind_parameters(
@@ -136,10 +140,10 @@ pub fn meant(
     scope: &mut Scope,
     log: &mut Log,
     written: &tree::Expr,
-) -> Result<Expr, AllocError>
+) -> Result<Box<Expr>, AllocError>
     requires { AreLiterals (tokens_view tokens.now) }
     ensures meaning { IfOk result (λ e. (w : naming.World) (locals : Locals) → StandsIn world.now scope.old w locals
-        → expr_view e ≡ spec.meant w locals
+        → expr_view e.value ≡ spec.meant w locals
         (tree_view.expr_view (tokens_view tokens.now) written.now)) }
     ensures log { OnOk result ((w : naming.World) (locals : Locals) → StandsIn world.now scope.old w locals
         → Grows w log.old log.new (spec.expr_sites w locals
@@ -147,7 +151,7 @@ pub fn meant(
     ensures scope { OnOk result (locals_of scope.new ≡ locals_of scope.old) }
 {
     let callee = callee(alloc, tokens, world, scope, log, written)?;
-    callee.finish(alloc)
+    finished(alloc, callee)
 }
 
 /// What the expression `written` means where the names of the words `words` are local too. Otherwise as `meant`.
@@ -160,10 +164,10 @@ pub fn scoped(
     log: &mut Log,
     words: &[Word],
     written: &tree::Expr,
-) -> Result<Expr, AllocError>
+) -> Result<Box<Expr>, AllocError>
     requires { AreLiterals (tokens_view tokens.now) }
     ensures meaning { IfOk result (λ e. (w : naming.World) (locals : Locals) → StandsIn world.now scope.old w locals
-        → expr_view e ≡ spec.meant w
+        → expr_view e.value ≡ spec.meant w
         (with_names (tree_view.words_view (tokens_view tokens.now) words.now) locals)
         (tree_view.expr_view (tokens_view tokens.now) written.now)) }
     ensures log { OnOk result ((w : naming.World) (locals : Locals) → StandsIn world.now scope.old w locals
@@ -199,7 +203,8 @@ fn meant_each(
 {
     let mut meanings = Vec::new(alloc);
     for one in written {
-        meanings.push(meant(alloc, tokens, world, scope, log, one)?)?;
+        let callee = callee(alloc, tokens, world, scope, log, one)?;
+        push_finished(alloc, &mut meanings, callee)?;
     }
     Ok(meanings)
 }
@@ -227,7 +232,8 @@ fn meant_parts(
 {
     let mut meanings = before;
     for field in fields {
-        meanings.push(meant(alloc, tokens, world, scope, log, &field.value)?)?;
+        let callee = callee(alloc, tokens, world, scope, log, &field.value)?;
+        push_finished(alloc, &mut meanings, callee)?;
     }
     Ok(meanings)
 }
@@ -255,10 +261,7 @@ fn operands(
     for part in parts {
         note_operator(alloc, tokens, log, part.word)?;
         let callee = callee(alloc, tokens, world, scope, log, &part.value)?;
-        operands.push(Operand {
-            operator: part.word,
-            callee,
-        })?;
+        push_operand(&mut operands, part.word, callee)?;
     }
     Ok(operands)
 }
@@ -293,7 +296,7 @@ fn meant_branches(
             &branch.pattern,
         )?;
         let body = scoped(alloc, tokens, world, scope, log, &words, &branch.body)?;
-        meanings.push(Branch { pattern, body })?;
+        push_branch(&mut meanings, pattern, body)?;
     }
     Ok(meanings)
 }
@@ -362,24 +365,23 @@ fn one_definition(
 {
     match definition {
         Definition::Annotate(_, written) => {
-            *before = Some(annotated(alloc, tokens, world, log, written)?);
+            annotate(alloc, tokens, world, log, written, before)?;
             Ok(Made::Nothing)
         }
         Definition::Define(name, parameters, body) => {
-            let before = before.take();
             let Parameters { patterns, words } = bind_parameters(
                 alloc, tokens, world, scope, log, parameters,
             )?;
             let value = scoped(alloc, tokens, world, scope, log, &words, body)?;
-            made_of(
+            defined_by(
                 alloc, tokens, *name, before, parameters, patterns, body, value,
             )
         }
         Definition::Destructure(left, body) => {
-            *before = None;
-            let parts = pattern(alloc, tokens, world, log, left)?;
+            forget(before);
+            let parts = boxed_pattern(alloc, tokens, world, log, left)?;
             let value = meant(alloc, tokens, world, scope, log, body)?;
-            Ok(Made::Parts(parts, value))
+            Ok(parts_of(parts, value))
         }
     }
 }

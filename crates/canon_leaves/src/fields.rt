@@ -120,13 +120,12 @@ pub fn accessed(
     alloc: Global,
     tokens: &[Token<'_>],
     first: Word,
-    value: Expr,
+    value: Box<Expr>,
     fields: &[Word],
 ) -> Result<Callee, AllocError>
     ensures { IfOk result (λ c. callee_view c ≡ spec.at (place_view (tokens_view tokens.now) first)
-        (spec.accessed (expr_view value) (fields_view (tokens_view tokens.now) fields.now))) }
+        (spec.accessed (expr_view value.value) (fields_view (tokens_view tokens.now) fields.now))) }
 {
     let names = field_names(alloc, tokens, fields)?;
-    let value = Box::new(alloc, value)?;
     Callee::at(alloc, place_at(tokens, first), Expr::Access(value, names))
 }

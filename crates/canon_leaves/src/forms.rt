@@ -54,13 +54,13 @@ pub fn negated(
     alloc: Global,
     tokens: &[Token<'_>],
     sign: Word,
-    inner: Expr,
+    inner: Box<Expr>,
 ) -> Result<Callee, AllocError>
     ensures { IfOk result (λ c. callee_view c ≡ spec.at (place_view (tokens_view tokens.now) sign)
-        (canon.Strict canon.Negate (spec.one (expr_view inner)))) }
+        (canon.Strict canon.Negate (spec.one (expr_view inner.value)))) }
 {
     let mut parts = Vec::with_capacity(alloc, 1)?;
-    parts.push(inner)?;
+    parts.push(Box::into_inner(inner))?;
     strict_at(alloc, tokens, sign, Op::Negate, parts)
 }
 
@@ -72,30 +72,21 @@ pub fn lambda(
     tokens: &[Token<'_>],
     first: Word,
     parameters: Vec<Pattern>,
-    body: Expr,
+    body: Box<Expr>,
 ) -> Result<Callee, AllocError>
     ensures { IfOk result (λ c. callee_view c ≡ spec.at (place_view (tokens_view tokens.now) first)
-        (canon.Lambda (patterns_view parameters.items) (expr_view body))) }
+        (canon.Lambda (patterns_view parameters.items) (expr_view body.value))) }
 {
-    let body = Box::new(alloc, body)?;
     at(alloc, tokens, first, Expr::Lambda(parameters, body))
 }
 
-/// `if a then b else c`, by what the three mean. The error means that memory ran out.
+/// `if a then b else c`, by what the three mean.
 #[tactic(auto, using(elm_canon::proofs::Views::conditional))]
-pub fn conditional(
-    alloc: Global,
-    condition: Expr,
-    yes: Expr,
-    no: Expr,
-) -> Result<Callee, AllocError>
-    ensures { IfOk result (λ c. callee_view c
-        ≡ plain (canon.If (expr_view condition) (expr_view yes) (expr_view no))) }
+pub fn conditional(alloc: Global, condition: Box<Expr>, yes: Box<Expr>, no: Box<Expr>) -> Callee
+    ensures { callee_view result
+        ≡ plain (canon.If (expr_view condition.value) (expr_view yes.value) (expr_view no.value)) }
 {
-    let condition = Box::new(alloc, condition)?;
-    let yes = Box::new(alloc, yes)?;
-    let no = Box::new(alloc, no)?;
-    Ok(Callee::plain(alloc, Expr::If(condition, yes, no)))
+    Callee::plain(alloc, Expr::If(condition, yes, no))
 }
 
 /// `case e of`, which begins at the word `first`, by what `e` and the branches mean. The word is of the text of the
@@ -105,22 +96,20 @@ pub fn case_of(
     alloc: Global,
     tokens: &[Token<'_>],
     first: Word,
-    subject: Expr,
+    subject: Box<Expr>,
     branches: Vec<Branch>,
 ) -> Result<Callee, AllocError>
     ensures { IfOk result (λ c. callee_view c ≡ spec.at (place_view (tokens_view tokens.now) first)
-        (canon.Case (expr_view subject) (canon.branches_of (map branch_view branches.items)))) }
+        (canon.Case (expr_view subject.value) (canon.branches_of (map branch_view branches.items)))) }
 {
-    let subject = Box::new(alloc, subject)?;
     at(alloc, tokens, first, Expr::Case(subject, branches))
 }
 
-/// `let`, by its groups and what its body means. The error means that memory ran out.
+/// `let`, by its groups and what its body means.
 #[tactic(auto, using(elm_canon::proofs::Views::let_in))]
-pub fn let_in(alloc: Global, groups: Vec<Group>, body: Expr) -> Result<Callee, AllocError>
-    ensures { IfOk result (λ c. callee_view c
-        ≡ plain (canon.Let (canon.groups_of (map group_view groups.items)) (expr_view body))) }
+pub fn let_in(alloc: Global, groups: Vec<Group>, body: Box<Expr>) -> Callee
+    ensures { callee_view result
+        ≡ plain (canon.Let (canon.groups_of (map group_view groups.items)) (expr_view body.value)) }
 {
-    let body = Box::new(alloc, body)?;
-    Ok(Callee::plain(alloc, Expr::Let(groups, body)))
+    Callee::plain(alloc, Expr::Let(groups, body))
 }

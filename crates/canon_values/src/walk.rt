@@ -76,7 +76,16 @@ fn named(
     note_bindings(alloc, tokens, world, &scope, log, &words)?;
     let value = scoped(alloc, tokens, world, &mut scope, log, &words, body)?;
     let title = top_name(alloc, tokens, home, name)?;
-    Ok(made_named(tokens, title, name, before, parameters, meant, body, value))
+    Ok(made_named(
+        tokens,
+        title,
+        name,
+        before,
+        parameters,
+        meant,
+        body,
+        Box::into_inner(value),
+    ))
 }
 
 /// Notes what is wrong in a pattern and in what it takes apart.

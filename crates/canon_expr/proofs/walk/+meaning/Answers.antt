@@ -23,6 +23,7 @@ use Rattle.canon_scope.proofs.Growing.{grows_more}
 use Rattle.canon_pattern.proofs.Meaning.{grows_at, on_ok}
 use Rattle.canon_pattern.proofs.Steps.{flat_next, take_all}
 use Rattle.canon_calls.specs.Callees.{finished}
+use Rattle.canon_calls.specs.Calls.{callee_view}
 use Rattle.canon_calls.specs.Chains.{operand_view}
 use Rattle.canon_blocks.specs.Binding.{bound_by, bound_by_each, bound_in, used_definition, uses_among, defined_in, is_function}
 use Rattle.canon_blocks.specs.Blocks.{groups_in, joined_sites, reaching_sites}
@@ -36,7 +37,7 @@ use Rattle.canon_sites.specs.Sites.{FieldsTogether}
 use Rattle.canon_expr.proofs.Lists.{each_meant, each_sites, parts_meant, parts_sites, part_meant, one_part_sites}
 use Rattle.canon_expr.proofs.Lists.{operands_mean, operands_sites, operand, operand_sites, branches_mean, branches_sites}
 use Rattle.canon_expr.proofs.Lists.{branch_meant, one_branch_sites, each_definition, annotated, annotated_next, made_next}
-use Rattle.canon_expr.proofs.Lists.{joined_next, uses_are}
+use Rattle.canon_expr.proofs.Lists.{joined_next, uses_are, one_more}
 use Rattle.canon_expr.proofs.Places.{stays, enters, here, block_grows}
 use Rattle.canon_expr.proofs.Constructs as construct
 use Rattle.canon_expr.proofs.walk.+meaning.Goals as goal
@@ -51,16 +52,14 @@ meant_each-loop-one-preserved t c =
     let e = c.one-item.result in
     record {
       meaning = λ w locals s.
-          pushed expr_view c.loop-one.meanings.items c.push.new.self.items c.in_ok-meant.field-0
-          (map (meant w locals) (map view (take i written))) (meant w locals (view e)) c.in_ok-push.ensures.items
-          (c.loop-one.invariant.meaning w locals s)
-          (c.in_ok-meant.ensures.meaning w locals (stays s c.loop-one.invariant.scope))
+          one_more c.in_ok-push_finished.ensures (c.loop-one.invariant.meaning w locals s)
+          (ap finished (c.in_ok-callee.ensures.meaning w locals (stays s c.loop-one.invariant.scope)))
           ∙ sym (map_map_next (meant w locals) view written i e (omega arith) c.one-item.is);
       log = λ w locals s.
           grows_at _ _ (flat_next (expr_sites w locals) view written i e (omega arith) c.one-item.is)
           (grows_more (c.loop-one.invariant.log w locals s)
-          (c.in_ok-meant.ensures.log w locals (stays s c.loop-one.invariant.scope)));
-      scope = c.in_ok-meant.ensures.scope ∙ c.loop-one.invariant.scope;
+          (c.in_ok-callee.ensures.log w locals (stays s c.loop-one.invariant.scope)));
+      scope = c.in_ok-callee.ensures.scope ∙ c.loop-one.invariant.scope;
     }
 
 pub meant_each-returns : goal.meant_each-returns
@@ -88,10 +87,8 @@ meant_parts-loop-field-preserved t c =
     let p = c.field-item.result in
     record {
       meaning = λ w locals s.
-          pushed expr_view c.loop-field.meanings.items c.push.new.self.items c.in_ok-meant.field-0
-          (map expr_view c.args.before.items ++ map (part_meant w locals) (map view (take i fields)))
-          (part_meant w locals (view p)) c.in_ok-push.ensures.items (c.loop-field.invariant.meaning w locals s)
-          (c.in_ok-meant.ensures.meaning w locals (stays s c.loop-field.invariant.scope)
+          one_more c.in_ok-push_finished.ensures (c.loop-field.invariant.meaning w locals s)
+          (ap finished (c.in_ok-callee.ensures.meaning w locals (stays s c.loop-field.invariant.scope))
           ∙ sym (ap (part_meant w locals) (views.part_of tokens p)))
           ∙ append_assoc (map expr_view c.args.before.items) (map (part_meant w locals) (map view (take i fields)))
           (part_meant w locals (view p) ∷ [])
@@ -101,8 +98,8 @@ meant_parts-loop-field-preserved t c =
           grows_at _ _ (flat_next (one_part_sites w locals) view fields i p (omega arith) c.field-item.is)
           (grows_more (c.loop-field.invariant.log w locals s)
           (grows_at _ _ (ap (one_part_sites w locals) (views.part_of tokens p))
-          (c.in_ok-meant.ensures.log w locals (stays s c.loop-field.invariant.scope))));
-      scope = c.in_ok-meant.ensures.scope ∙ c.loop-field.invariant.scope;
+          (c.in_ok-callee.ensures.log w locals (stays s c.loop-field.invariant.scope))));
+      scope = c.in_ok-callee.ensures.scope ∙ c.loop-field.invariant.scope;
     }
 
 pub meant_parts-returns : goal.meant_parts-returns
@@ -131,9 +128,7 @@ operands-loop-part-preserved t c =
     let p = c.part-item.result in
     record {
       meaning = λ w locals s.
-          pushed (operand_view tokens) c.loop-part.operands.items c.push.new.self.items _
-          (map (operand w locals) (map view (take i parts))) (operand w locals (view p)) c.in_ok-push.ensures.items
-          (c.loop-part.invariant.meaning w locals s)
+          one_more (c.in_ok-push_operand.ensures tokens) (c.loop-part.invariant.meaning w locals s)
           (ap (λ f. (word_view tokens p.word, f))
           (c.in_ok-callee.ensures.meaning w locals (stays s c.loop-part.invariant.scope))
           ∙ sym (ap (operand w locals) (views.part_of tokens p)))
@@ -178,11 +173,8 @@ meant_branches-loop-branch-preserved t c =
     record {
       meaning = λ w locals s.
           let here = stays s c.loop-branch.invariant.scope in
-          pushed branch_view c.loop-branch.meanings.items c.push.new.self.items _
-          (map (branch_meant w locals) (map view (take i branches))) (branch_meant w locals (view b))
-          c.in_ok-push.ensures.items (c.loop-branch.invariant.meaning w locals s)
-          (canon_views.branch _
-          ∙ ap (λ q. (q, expr_view c.in_ok-body.body)) (c.in_ok-pattern.ensures.meaning w s.is_world)
+          one_more c.in_ok-push_branch.ensures (c.loop-branch.invariant.meaning w locals s)
+          (ap (λ q. (q, expr_view c.in_ok-body.body.value)) (c.in_ok-pattern.ensures.meaning w s.is_world)
           ∙ ap (λ r. (pattern_of w p, r))
           (c.in_ok-body.ensures.meaning w locals here ∙ ap (λ ws. meant w (with_names ws locals) e) bound)
           ∙ sym (ap (branch_meant w locals) (views.branch_of tokens b)))
@@ -222,10 +214,10 @@ meant_branches-returns t c =
 pub meant-returns : goal.meant-returns
 meant-returns t c = record {
   meaning =
-      IfOk-weaker c.finish.result _ _
-      (λ e is w locals s. is ∙ ap finished (c.in_ok-callee.ensures.meaning w locals s)) c.finish.ensures;
-  log = on_ok c.finish.result c.in_ok-callee.ensures.log;
-  scope = on_ok c.finish.result c.in_ok-callee.ensures.scope;
+      IfOk-weaker c.finished.result _ _
+      (λ e is w locals s. is ∙ ap finished (c.in_ok-callee.ensures.meaning w locals s)) c.finished.ensures;
+  log = on_ok c.finished.result c.in_ok-callee.ensures.log;
+  scope = on_ok c.finished.result c.in_ok-callee.ensures.scope;
 }
 
 pub scoped-returns : goal.scoped-returns
@@ -340,16 +332,16 @@ defined-returns t c =
       scope = on_ok c.finish.result here.scope;
     }
 
-pub one_definition-returns-in_ok-annotated-in-Annotate : goal.one_definition-returns-in_ok-annotated-in-Annotate
-one_definition-returns-in_ok-annotated-in-Annotate t c =
+pub one_definition-returns-in_ok-annotate-in-Annotate : goal.one_definition-returns-in_ok-annotate-in-Annotate
+one_definition-returns-in_ok-annotate-in-Annotate t c =
     let tokens = tokens_view c.args.tokens.now in
     let view = tree_view.definition_view tokens in
     let whole = ap view c.in-Annotate.is ∙ views.annotate_definition tokens _ _ in
     record {
       meaning = λ w locals s. ap (made_by w locals (option_map annotation_view c.args.before.now)) (sym whole);
-      log = λ w locals s. grows_at _ _ (ap (definition_sites w locals) whole) (c.in_ok-annotated-in-Annotate.ensures.log w s.is_world);
+      log = λ w locals s. grows_at _ _ (ap (definition_sites w locals) whole) (c.in_ok-annotate-in-Annotate.ensures.log w s.is_world);
       scope = refl;
-      before = λ w locals s. ap Some (c.in_ok-annotated-in-Annotate.ensures.meaning w s.is_world) ∙ sym (ap (annotation_of w) whole);
+      before = λ w locals s. c.in_ok-annotate-in-Annotate.ensures.meaning w s.is_world ∙ sym (ap (annotation_of w) whole);
     }
 
 pub one_definition-returns-in_ok-value-in-Define : goal.one_definition-returns-in_ok-value-in-Define
@@ -365,16 +357,16 @@ one_definition-returns-in_ok-value-in-Define t c =
     let words = ap (words_view tokens) c.deref-in-Define.ensures.value ∙ c.in_ok-patterns-in-Define.ensures.words ∙ ap words_of_all written in
     record {
       meaning =
-          IfOk-weaker c.made_of.result _ _
+          IfOk-weaker c.defined_by.result _ _
           (λ m is w locals s.
           construct.define_means w locals x ps e _ _ _ _ _ _ _ whole is
-          (ap (option_map annotation_view) c.take-before.ensures.value)
+          refl
           (ap (λ qs. is_function qs e) (ap (patterns_view tokens) c.deref-in-Define-2.ensures.value))
           (c.in_ok-patterns-in-Define.ensures.meaning w s.is_world ∙ ap (patterns_of w) written)
           (c.in_ok-value-in-Define.ensures.meaning w locals s ∙ ap (λ ws. meant w (with_names ws locals) e) words))
-          c.made_of.ensures;
+          c.defined_by.ensures.meaning;
       log =
-          on_ok c.made_of.result
+          on_ok c.defined_by.result
           (λ w locals s. grows_at _ _ (ap (definition_sites w locals) whole)
           (grows_more
           (grows_at _ _ (ap (list_sites locals) (sym written))
@@ -382,8 +374,11 @@ one_definition-returns-in_ok-value-in-Define t c =
           (c.in_ok-patterns-in-Define.ensures.log w s.is_world)))
           (grows_at _ _ (ap (λ ws. expr_sites w (with_names ws locals) e) (sym words))
           (c.in_ok-value-in-Define.ensures.log w locals s))));
-      scope = on_ok c.made_of.result c.in_ok-value-in-Define.ensures.scope;
-      before = on_ok c.made_of.result (λ w locals s. ap (option_map annotation_view) c.take-before.ensures.after ∙ sym (ap (annotation_of w) whole));
+      scope = on_ok c.defined_by.result c.in_ok-value-in-Define.ensures.scope;
+      before =
+          on_ok_weaker c.defined_by.result
+          (λ none w locals s. ap (option_map annotation_view) none ∙ sym (ap (annotation_of w) whole))
+          c.defined_by.ensures.before;
     }
 
 pub one_definition-returns-in_ok-value-in-Destructure : goal.one_definition-returns-in_ok-value-in-Destructure
@@ -396,14 +391,14 @@ one_definition-returns-in_ok-value-in-Destructure t c =
     ap view c.in-Destructure.is ∙ views.destructure_definition tokens c.in-Destructure.left c.in-Destructure.body in
     record {
       meaning = λ w locals s.
-          construct.destructure_means w locals p e _ _ _ _ _ whole refl
+          construct.destructure_means w locals p e _ _ _ _ _ whole c.parts_of.ensures
           (c.in_ok-parts-in-Destructure.ensures.meaning w s.is_world)
           (c.in_ok-value-in-Destructure.ensures.meaning w locals s);
       log = λ w locals s. grows_at _ _ (ap (definition_sites w locals) whole)
           (grows_more (c.in_ok-parts-in-Destructure.ensures.log w s.is_world)
           (c.in_ok-value-in-Destructure.ensures.log w locals s));
       scope = c.in_ok-value-in-Destructure.ensures.scope;
-      before = λ w locals s. sym (ap (annotation_of w) whole);
+      before = λ w locals s. ap (option_map annotation_view) c.forget.ensures ∙ sym (ap (annotation_of w) whole);
     }
 
 -- ---- constructs
@@ -461,15 +456,16 @@ callee-returns-in_ok-arguments-in-Apply t c =
     let more = c.in_ok-arguments-in-Apply.ensures in
     record {
       meaning =
-          IfOk-weaker c.extend.result _ _
-          (λ r is w locals s. construct.apply_means w locals _ f es _ _ _ whole is (first.meaning w locals s)
+          IfOk-weaker c.applied.result _ _
+          (λ r is w locals s. construct.apply_means w locals _ f es _ _ _ whole is
+          (ap callee_view c.in_ok-function-in-Apply-2.ensures ∙ first.meaning w locals s)
           (more.meaning w locals (stays s first.scope)))
-          c.extend.ensures;
+          c.applied.ensures;
       log =
-          on_ok c.extend.result
+          on_ok c.applied.result
           (λ w locals s. grows_at _ _ (ap (expr_sites w locals) whole)
           (grows_more (first.log w locals s) (more.log w locals (stays s first.scope))));
-      scope = on_ok c.extend.result (more.scope ∙ first.scope);
+      scope = on_ok c.applied.result (more.scope ∙ first.scope);
     }
 
 pub callee-returns-in_ok-operands-in-Chain : goal.callee-returns-in_ok-operands-in-Chain
@@ -487,15 +483,16 @@ callee-returns-in_ok-operands-in-Chain t c =
     let more = c.in_ok-operands-in-Chain.ensures in
     record {
       meaning =
-          IfOk-weaker c.chain.result _ _
-          (λ r is w locals s. construct.chain_means w locals _ e ps _ _ _ whole is (first.meaning w locals s)
+          IfOk-weaker c.chained.result _ _
+          (λ r is w locals s. construct.chain_means w locals _ e ps _ _ _ whole is
+          (ap callee_view c.in_ok-first-in-Chain-2.ensures ∙ first.meaning w locals s)
           (more.meaning w locals (stays s first.scope)))
-          c.chain.ensures;
+          c.chained.ensures;
       log =
-          on_ok c.chain.result
+          on_ok c.chained.result
           (λ w locals s. grows_at _ _ (ap (expr_sites w locals) whole)
           (grows_more (first.log w locals s) (more.log w locals (stays s first.scope))));
-      scope = on_ok c.chain.result (more.scope ∙ first.scope);
+      scope = on_ok c.chained.result (more.scope ∙ first.scope);
     }
 
 pub callee-returns-in_ok-items-in-List : goal.callee-returns-in_ok-items-in-List
@@ -614,17 +611,14 @@ callee-returns-in_ok-no-in-If t c =
     let yes = c.in_ok-yes-in-If.ensures in
     let no = c.in_ok-no-in-If.ensures in
     record {
-      meaning =
-          IfOk-weaker c.conditional.result _ _
-          (λ r is w locals s. construct.if_means w locals _ e a b _ _ _ _ whole is (condition.meaning w locals s)
-          (yes.meaning w locals (stays s condition.scope)) (no.meaning w locals (stays s (yes.scope ∙ condition.scope))))
-          c.conditional.ensures;
-      log =
-          on_ok c.conditional.result
-          (λ w locals s. grows_at _ _ (ap (expr_sites w locals) whole)
+      meaning = λ w locals s.
+          construct.if_means w locals _ e a b _ _ _ _ whole c.conditional.ensures (condition.meaning w locals s)
+          (yes.meaning w locals (stays s condition.scope)) (no.meaning w locals (stays s (yes.scope ∙ condition.scope)));
+      log = λ w locals s.
+          grows_at _ _ (ap (expr_sites w locals) whole)
           (grows_more (grows_more (condition.log w locals s) (yes.log w locals (stays s condition.scope)))
-          (no.log w locals (stays s (yes.scope ∙ condition.scope)))));
-      scope = on_ok c.conditional.result (no.scope ∙ yes.scope ∙ condition.scope);
+          (no.log w locals (stays s (yes.scope ∙ condition.scope))));
+      scope = no.scope ∙ yes.scope ∙ condition.scope;
     }
 
 pub callee-returns-in_ok-branches-in-Case : goal.callee-returns-in_ok-branches-in-Case
@@ -675,16 +669,12 @@ callee-returns-in_ok-leave-in-Let t c =
     let body = c.in_ok-body-in-Let.ensures in
     let names = entered.names ∙ ap (λ xs. with_names (bound_in xs) (locals_of c.args.scope.now)) same in
     record {
-      meaning =
-          IfOk-weaker c.let_in.result _ _
-          (λ r is w locals s.
+      meaning = λ w locals s.
           let inside = enters (bound_in ds) s names in
-          construct.let_means w locals _ e ds _ _ _ whole is (groups.meaning w (with_names (bound_in ds) locals) inside)
-          (body.meaning w (with_names (bound_in ds) locals) (stays inside groups.scope)))
-          c.let_in.ensures;
-      log =
-          on_ok c.let_in.result
-          (λ w locals s.
+          construct.let_means w locals _ e ds _ _ _ whole c.let_in.ensures
+          (groups.meaning w (with_names (bound_in ds) locals) inside)
+          (body.meaning w (with_names (bound_in ds) locals) (stays inside groups.scope));
+      log = λ w locals s.
           let inside = enters (bound_in ds) s names in
           grows_at _ _ (ap (expr_sites w locals) whole)
           (block_grows (joined_sites (definitions_sites w (with_names (bound_in ds) locals) ds))
@@ -693,11 +683,10 @@ callee-returns-in_ok-leave-in-Let t c =
           (grows_at _ _ (ap (λ xs. binding_sites locals (bound_in xs)) (sym same))
           (here (λ ls. binding_sites ls (bound_in entered_at)) s (entered.log w s.is_world)))
           (groups.log w (with_names (bound_in ds) locals) inside)
-          (body.log w (with_names (bound_in ds) locals) (stays inside groups.scope))));
+          (body.log w (with_names (bound_in ds) locals) (stays inside groups.scope)));
       scope =
-          on_ok c.let_in.result
-          (c.in_ok-leave-in-Let.ensures
-          ∙ ap (without c.in_ok-entered-in-Let.entered.items) (body.scope ∙ groups.scope) ∙ entered.entered);
+          c.in_ok-leave-in-Let.ensures
+          ∙ ap (without c.in_ok-entered-in-Let.entered.items) (body.scope ∙ groups.scope) ∙ entered.entered;
     }
 
 pub callee-returns-in_ok-body-in-Lambda : goal.callee-returns-in_ok-body-in-Lambda

@@ -16,12 +16,12 @@ returns c =
     let tokens = tokens_view c.args.tokens.now in
     let place : c.place_at.result ≡ place_view tokens c.args.first =
     λ i. record { row = c.place_at.ensures.row i; column = c.place_at.ensures.column i } in
+    let value = c.args.value in
     IfOk-weaker c.at.result _ _
     (λ callee e. e
-    ∙ ap (λ p. at p (expr_view (form.Access c.in_ok-value.value c.in_ok-names.names))) place
+    ∙ ap (λ p. at p (expr_view (form.Access value c.in_ok-names.names))) place
     ∙ ap (at (place_view tokens c.args.first))
-    (views.access c.in_ok-value.value c.in_ok-names.names
-    ∙ ap (λ v. view.accessed (expr_view v) c.in_ok-names.names.items) c.in_ok-value.ensures.ok
-    ∙ ap (view.accessed (expr_view c.args.value)) c.in_ok-names.ensures
-    ∙ access_is (expr_view c.args.value) (fields_view tokens c.args.fields.now)))
+    (views.access value c.in_ok-names.names
+    ∙ ap (view.accessed (expr_view value.value)) c.in_ok-names.ensures
+    ∙ access_is (expr_view value.value) (fields_view tokens c.args.fields.now)))
     c.at.ensures
