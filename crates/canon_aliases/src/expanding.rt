@@ -22,6 +22,7 @@ ghost use Rattle.canon_aliases.specs.Types.{is_record, standing_for, body_of};
 ghost use Rattle.canon_aliases.specs.Kept.{is_place, with_first, Setting, IsSetting, IsExpanding, uses_in, alias_at};
 ghost use Rattle.canon_aliases.specs.Kept.{world_with, AreExpanded};
 
+use crate::heights::check_heights;
 use binding_groups::{Group, ordered_groups};
 use canon_annotation::annotation::annotation;
 use canon_declared::constructors::names_of;
@@ -322,6 +323,7 @@ impl Expansion {
         let names = OwnNames::of(alloc, tokens, declarations, &aliases)?;
         let uses = uses_of(alloc, tokens, &names, &aliases)?;
         let groups = ordered_groups(alloc, &uses)?;
+        check_heights(alloc, &uses, &groups)?;
         let made = none_made(alloc, aliases.len())?;
         self.made = made;
         self.add_groups(alloc, tokens, home, &names, &aliases, &groups)?;
@@ -332,7 +334,7 @@ impl Expansion {
 /// The aliases among the declarations `declarations` of the module `home`, each expanded after those that it uses, and
 /// the world in which they are declared. Before it, `world` has the unions and what is imported. The declarations are
 /// of the text of the tokens `tokens`. The error means that memory ran out; so it does where there are 2 ^ 32 aliases
-/// or more.
+/// or more, or where more than 4,096 of them stand for each other in turn.
 pub fn expanded_aliases(
     alloc: Global,
     tokens: &[Token<'_>],

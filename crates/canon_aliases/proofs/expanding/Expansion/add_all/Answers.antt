@@ -57,14 +57,14 @@ add_groups-requires-clause-within c =
     c.deref-2.result.now c.in_ok-aliases.aliases.items c.deref-3.result.now c.in_ok-uses.uses.items
     c.deref.ensures.value c.deref-2.ensures.value c.deref-3.ensures.value (c.in_ok-aliases.ensures tokens)
     c.in_ok-names.ensures.names c.in_ok-uses.ensures in
-    let P : ℕ → Type 0 = λ n. All (λ (g : Group). All (λ i. i < n) g.members.items) c.deref-5.result.now in
+    let P : ℕ → Type 0 = λ n. All (λ (g : Group). All (λ i. i < n) g.members.items) c.deref-7.result.now in
     let Q : List Group → Type 0 = λ gs. All (λ (g : Group). All (λ i. i < length uses) g.members.items) gs in
-    let many : length uses ≡ length c.deref-4.result.now =
+    let many : length uses ≡ length c.deref-6.result.now =
     ap length is ∙ length-map (aliases_in ds) _
     ∙ sym (ap length (c.in_ok-aliases.ensures tokens)) ∙ length-map c.in_ok-aliases.aliases.items (alias_view tokens)
-    ∙ sym (ap length c.deref-4.ensures.value) in
+    ∙ sym (ap length c.deref-6.ensures.value) in
     subst P many
-    (subst Q (sym c.deref-5.ensures.value)
+    (subst Q (sym c.deref-7.ensures.value)
     (groups_within uses [] c.in_ok-groups.groups.items c.in_ok-groups.ensures.order))
 
 pub returns : goal.returns
@@ -74,7 +74,7 @@ returns c = λ s is home named aliases world.
     let ds = map (declaration_view tokens) c.args.declarations.now in
     let all : view c.in_ok-aliases.aliases.items ≡ s.aliases = c.in_ok-aliases.ensures tokens ∙ sym aliases in
     let first : view c.deref.result.now ≡ s.aliases = ap view c.deref.ensures.value ∙ all in
-    let fourth : s.aliases ≡ view c.deref-4.result.now = sym (ap view c.deref-4.ensures.value ∙ all) in
+    let fourth : s.aliases ≡ view c.deref-6.result.now = sym (ap view c.deref-6.ensures.value ∙ all) in
     let keeps : Keeps c.in_ok-names.names s.names (alias_names s.aliases) =
     subst (λ (as_now : List AliasTree). Keeps c.in_ok-names.names s.names (alias_names as_now)) first
     (subst (λ (us : List Name). Keeps c.in_ok-names.names us (alias_names (view c.deref.result.now))) (sym named)
@@ -85,16 +85,16 @@ returns c = λ s is home named aliases world.
     c.deref-2.ensures.value c.deref-3.ensures.value all
     (subst (λ (us : List Name). Keeps c.in_ok-names.names us (alias_names (view c.deref.result.now))) (sym named)
     c.in_ok-names.ensures.names) c.in_ok-uses.ensures in
-    let order : IsOrder (uses_in s) [] (members_of c.deref-5.result.now) =
-    subst (λ (gs : List Group). IsOrder (uses_in s) [] (members_of gs)) (sym c.deref-5.ensures.value)
+    let order : IsOrder (uses_in s) [] (members_of c.deref-7.result.now) =
+    subst (λ (gs : List Group). IsOrder (uses_in s) [] (members_of gs)) (sym c.deref-7.ensures.value)
     (subst (λ us. IsOrder us [] (members_of c.in_ok-groups.groups.items)) uses c.in_ok-groups.ensures.order) in
-    let marks : marks_of c.deref-5.result.now ≡ map (is_recursive (uses_in s)) (members_of c.deref-5.result.now) =
-    ap marks_of c.deref-5.ensures.value ∙ c.in_ok-groups.ensures.marks
+    let marks : marks_of c.deref-7.result.now ≡ map (is_recursive (uses_in s)) (members_of c.deref-7.result.now) =
+    ap marks_of c.deref-7.ensures.value ∙ c.in_ok-groups.ensures.marks
     ∙ ap (map (is_recursive (plain c.deref-3.result.now))) (sym c.in_ok-groups.ensures.members)
     ∙ ap (λ us. map (is_recursive us) (members_of c.in_ok-groups.groups.items)) uses
-    ∙ ap (λ gs. map (is_recursive (uses_in s)) (members_of gs)) (sym c.deref-5.ensures.value) in
+    ∙ ap (λ gs. map (is_recursive (uses_in s)) (members_of gs)) (sym c.deref-7.ensures.value) in
     let count : c.len.result ≡ length s.aliases =
     omega (arith, c.len.ensures, ap length all, length-map c.in_ok-aliases.aliases.items (alias_view tokens)) in
-    expanded_all s _ _ (members_of c.deref-5.result.now) order
+    expanded_all s _ _ (members_of c.deref-7.result.now) order
     (c.in_ok-add_groups.ensures s is home keeps fourth
     (nothing_made s c.args.self.now.world c.in_ok-made.made.items c.len.result c.in_ok-made.ensures count world) order marks)
