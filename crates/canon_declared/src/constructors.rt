@@ -58,7 +58,7 @@ fn tag_of(home: &Name, union: &Name, place: u32) -> Tag
 
 /// The constructors of the union `union` of the module `home`. The error means that memory ran out; so it does where
 /// there are 2 ^ 32 constructors or more.
-pub(crate) fn alternatives_of(
+pub fn alternatives_of(
     alloc: Global,
     tokens: &[Token<'_>],
     home: &Name,

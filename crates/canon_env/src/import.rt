@@ -101,8 +101,9 @@ fn exposed_names(
     Ok(names)
 }
 
-/// What is exposed by an import.
-fn exposing_names(
+/// What a header or an import of the text of the tokens `tokens` exposes that has `exposes` there. The error means that
+/// memory ran out.
+pub fn exposing_names(
     alloc: Global,
     tokens: &[Token<'_>],
     exposes: &tree::Exposing,

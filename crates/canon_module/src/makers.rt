@@ -1,0 +1,158 @@
+//! The constructors that a module declares, as functions without bodies.
+
+ghost use Rattle.std.specs.Prelude.{◌≡◌, ◌++◌, ◌∷◌, [], map, flat_map, IfOk, OnOk};
+ghost use Rattle.elm_tree.specs.View as tree_view;
+ghost use Rattle.elm_tree.specs.Turns.{tokens_view};
+ghost use Rattle.elm_canon.specs.Tree as canon;
+ghost use Rattle.elm_canon.specs.View.{declaration_view};
+ghost use Rattle.elm_canon.specs.declared.reference.Ref.TheVariants.{Top};
+ghost use Rattle.canon_env.specs.Imports.{name_of};
+ghost use Rattle.canon_declared.specs.Unions.{alternatives_of};
+ghost use Rattle.canon_module.specs.Resolve.{maker_of, record_maker, makers_in};
+
+use canon_declared::constructors::alternatives_of;
+use canon_env::import::word_name;
+use elm_canon::reference::Ref;
+use elm_canon::tree;
+use elm_canon::tree::Known;
+use elm_canon::unions::Alternative;
+use elm_lexer::token::Token;
+use elm_names::name::Name;
+use elm_tree::tree::{Constructor, Declaration, FieldType, TypeTree, Word};
+use std::alloc::{AllocError, Global};
+
+/// Adds constructors of a union.
+fn push_alternatives(
+    home: &Name,
+    alternatives: &[Alternative],
+    makers: &mut Vec<tree::Declaration>,
+) -> Result<(), AllocError>
+    ensures { OnOk result (map declaration_view makers.new.items
+        ≡ map declaration_view makers.old.items ++ map (maker_of home.now) alternatives.now) }
+{
+    for alternative in alternatives {
+        let name = Ref::Top(home.clone()?, alternative.name.clone()?);
+        makers.push(tree::Declaration::Given(name, Known::Maker(alternative.clone()?)))?;
+    }
+    Ok(())
+}
+
+/// Adds the constructors of the union that the word `word` names.
+fn push_union(
+    alloc: Global,
+    tokens: &[Token<'_>],
+    home: &Name,
+    word: Word,
+    constructors: &[Constructor],
+    makers: &mut Vec<tree::Declaration>,
+) -> Result<(), AllocError>
+    ensures { OnOk result (map declaration_view makers.new.items ≡ map declaration_view makers.old.items
+        ++ map (maker_of home.now) (alternatives_of home.now
+        (name_of (tree_view.word_view (tokens_view tokens.now) word))
+        (map (tree_view.constructor_view (tokens_view tokens.now)) constructors.now))) }
+{
+    let union = word_name(alloc, tokens, word)?;
+    let alternatives = alternatives_of(alloc, tokens, home, &union, constructors)?;
+    push_alternatives(home, &alternatives, makers)
+}
+
+/// The names of fields.
+fn field_names(
+    alloc: Global,
+    tokens: &[Token<'_>],
+    fields: &[FieldType],
+) -> Result<Vec<Name>, AllocError>
+    ensures { IfOk result (λ v. v.items
+        ≡ map (λ f. name_of (tree_view.word_view (tokens_view tokens.now) f.name)) fields.now) }
+{
+    let mut names = Vec::with_capacity(alloc, fields.len())?;
+    for field in fields {
+        names.push(word_name(alloc, tokens, field.name)?)?;
+    }
+    Ok(names)
+}
+
+/// Adds the constructor of records with these fields that the word `word` names.
+fn push_record(
+    alloc: Global,
+    tokens: &[Token<'_>],
+    home: &Name,
+    word: Word,
+    fields: &[FieldType],
+    makers: &mut Vec<tree::Declaration>,
+) -> Result<(), AllocError>
+    ensures { OnOk result (map declaration_view makers.new.items ≡ map declaration_view makers.old.items
+        ++ canon.Given (Top home.now (name_of (tree_view.word_view (tokens_view tokens.now) word)))
+        (canon.RecordMaker (map (λ f. name_of (tree_view.word_view (tokens_view tokens.now) f.name)) fields.now))
+        ∷ []) }
+{
+    let name = Ref::Top(home.clone()?, word_name(alloc, tokens, word)?);
+    let names = field_names(alloc, tokens, fields)?;
+    makers.push(tree::Declaration::Given(name, Known::RecordMaker(names)))?;
+    Ok(())
+}
+
+/// Adds the constructor of the alias that the word `word` names, if it is written as a closed record.
+fn push_alias(
+    alloc: Global,
+    tokens: &[Token<'_>],
+    home: &Name,
+    word: Word,
+    written: &TypeTree,
+    makers: &mut Vec<tree::Declaration>,
+) -> Result<(), AllocError>
+    ensures { OnOk result (map declaration_view makers.new.items ≡ map declaration_view makers.old.items
+        ++ record_maker home.now (tree_view.word_view (tokens_view tokens.now) word)
+        (tree_view.type_view (tokens_view tokens.now) written.now)) }
+{
+    match written {
+        TypeTree::Variable(_) => Ok(()),
+        TypeTree::Named(_, _) => Ok(()),
+        TypeTree::Function(_) => Ok(()),
+        TypeTree::Tuple(_) => Ok(()),
+        TypeTree::Record(base, fields) => match base {
+            Some(_) => Ok(()),
+            None => push_record(alloc, tokens, home, word, fields, makers),
+        },
+    }
+}
+
+/// Adds the constructors that a declaration declares.
+fn push_makers(
+    alloc: Global,
+    tokens: &[Token<'_>],
+    home: &Name,
+    declaration: &Declaration,
+    makers: &mut Vec<tree::Declaration>,
+) -> Result<(), AllocError>
+    ensures { OnOk result (map declaration_view makers.new.items ≡ map declaration_view makers.old.items
+        ++ makers_in home.now (tree_view.declaration_view (tokens_view tokens.now) declaration.now)) }
+{
+    match declaration {
+        Declaration::Value(_) => Ok(()),
+        Declaration::Port(_, _) => Ok(()),
+        Declaration::Union(word, _, constructors) => {
+            push_union(alloc, tokens, home, *word, constructors, makers)
+        }
+        Declaration::Alias(word, _, written) => {
+            push_alias(alloc, tokens, home, *word, written, makers)
+        }
+    }
+}
+
+/// The constructors that the declarations of a module declare, in written order.
+pub(crate) fn makers(
+    alloc: Global,
+    tokens: &[Token<'_>],
+    home: &Name,
+    declarations: &[Declaration],
+) -> Result<Vec<tree::Declaration>, AllocError>
+    ensures { IfOk result (λ v. map declaration_view v.items ≡ flat_map (makers_in home.now)
+        (map (tree_view.declaration_view (tokens_view tokens.now)) declarations.now)) }
+{
+    let mut makers = Vec::new(alloc);
+    for declaration in declarations {
+        push_makers(alloc, tokens, home, declaration, &mut makers)?;
+    }
+    Ok(makers)
+}

@@ -1,0 +1,242 @@
+//! What a module means, and all faults of its names.
+
+ghost use Rattle.std.specs.Prelude.{◌≡◌, ◌++◌, List, map, flat_map, option_map, IfOk, OnOk};
+ghost use Rattle.elm_tree.specs.View as tree_view;
+ghost use Rattle.elm_tree.specs.Turns.{tokens_view};
+ghost use Rattle.elm_canon.specs.Tree as canon;
+ghost use Rattle.elm_canon.specs.View.{declaration_view, port_declaration_view, module_view};
+ghost use Rattle.canon_env.specs.Imports.{name_of};
+ghost use Rattle.canon_env.specs.Env.{imported_rows, known_view};
+ghost use Rattle.canon_env.specs.Exposing.{import_faults, written_view};
+ghost use Rattle.canon_env.specs.Shown.{shown_view, unions_view};
+ghost use Rattle.canon_sites.specs.Naming as naming;
+ghost use Rattle.canon_sites.specs.Naming.{IsWorld};
+ghost use Rattle.canon_sites.specs.Order.{IsInOrder};
+ghost use Rattle.canon_names.specs.View.{names_view};
+ghost use Rattle.canon_names.specs.Faults.{name_faults};
+ghost use Rattle.canon_pattern.specs.Literals.{AreLiterals};
+ghost use Rattle.declared_types.specs.Types.{module_world, AreDeclared, AreAll, declared_faults};
+ghost use Rattle.canon_values.specs.Items.{value_groups};
+ghost use Rattle.canon_values.specs.Faults.{value_faults};
+ghost use Rattle.canon_module.specs.Resolve as spec;
+ghost use Rattle.canon_module.specs.Kept.{setting_view};
+
+use crate::makers::makers;
+use crate::ports::ports;
+use canon_declared::constructors::names_of;
+use canon_env::env::{Env, Known, World};
+use canon_env::exposing::{Written, import_faults};
+use canon_env::finding::Finding;
+use canon_env::shown::Shown;
+use canon_names::faults::push_name_faults;
+use canon_names::names::Names;
+use canon_scope::log::Log;
+use canon_shown::shown::{exposed_by, shown_by};
+use canon_sites::order::in_order;
+use canon_values::values::values;
+use declared_types::declaring::{Declared, declared_types};
+use elm_canon::tree as canon;
+use elm_canon::tree::{Module, PortDeclaration, UnionDeclaration};
+use elm_lexer::token::Token;
+use elm_names::name::Name;
+use elm_tree::tree;
+use elm_tree::tree::{Declaration, Header};
+use std::alloc::{AllocError, Global};
+use std::sync::Arc;
+
+/// What a module is resolved against.
+#[derive(Clone, Copy)]
+pub struct Setting<'a> {
+    /// Its name, by its path.
+    pub home: &'a Name,
+    /// The types that it has without a text, as `Int` is of `Basics`.
+    pub given: &'a [Arc<UnionDeclaration, Global>],
+    /// Its imports, those that each module has without writing them among them, each beside what its module shows.
+    pub imports: &'a [Known<'a>],
+    /// The imports that are written, each beside what its module shows.
+    pub written: &'a [Written<'a>],
+}
+
+/// What a module means, what it shows to those that import it, and its faults.
+#[derive(Drop)]
+pub struct Resolved {
+    /// Of no use where there are faults.
+    pub module: Module,
+    pub shown: Shown,
+    /// Each once, by place and then by code.
+    pub faults: Vec<Finding>,
+}
+
+/// The names of unions.
+fn union_names(
+    alloc: Global,
+    unions: &[Arc<UnionDeclaration, Global>],
+) -> Result<Vec<Name>, AllocError>
+    ensures { IfOk result (λ v. v.items ≡ map spec.union_name (unions_view unions.now)) }
+{
+    let mut names = Vec::with_capacity(alloc, unions.len())?;
+    for union in unions {
+        names.push(union.name.clone()?)?;
+    }
+    Ok(names)
+}
+
+/// The faults of the imports, and of the names that a module declares and exposes.
+fn heading_faults(
+    alloc: Global,
+    tokens: &[Token<'_>],
+    setting: &Setting<'_>,
+    names: &Names,
+    header: &Option<Header>,
+) -> Result<Vec<Finding>, AllocError>
+    ensures { IfOk result (λ v. v.items
+        ≡ flat_map import_faults (map (written_view (tokens_view tokens.now)) setting.now.written.now)
+        ++ name_faults (map spec.union_name (unions_view setting.now.given.now))
+        (names_view (tokens_view tokens.now) names.now)
+        (option_map (tree_view.header_view (tokens_view tokens.now)) header.now)) }
+{
+    let mut findings = import_faults(alloc, tokens, setting.written)?;
+    let given = union_names(alloc, setting.given)?;
+    push_name_faults(alloc, tokens, &given, names, header, &mut findings)?;
+    Ok(findings)
+}
+
+/// What a module declares, and what it can name. The faults of its types are added to `findings`.
+fn declared(
+    alloc: Global,
+    tokens: &[Token<'_>],
+    setting: &Setting<'_>,
+    names: &Names,
+    declarations: &[Declaration],
+    findings: &mut Vec<Finding>,
+) -> Result<Box<Declared>, AllocError>
+    ensures values { IfOk result (λ d. (shown_view d.value.shown).values
+        ≡ map name_of (names_view (tokens_view tokens.now) names.now).values) }
+    ensures types { IfOk result (λ d. AreDeclared setting.now.home.now
+        (imported_rows (map known_view setting.now.imports.now))
+        (map (tree_view.declaration_view (tokens_view tokens.now)) declarations.now) (shown_view d.value.shown)) }
+    ensures all { IfOk result (λ d. AreAll setting.now.home.now
+        (imported_rows (map known_view setting.now.imports.now))
+        (map (tree_view.declaration_view (tokens_view tokens.now)) declarations.now) (shown_view d.value.shown)) }
+    ensures world { IfOk result (λ d. IsWorld d.value.world (module_world setting.now.home.now
+        (imported_rows (map known_view setting.now.imports.now)) (shown_view d.value.shown))) }
+    ensures faults { IfOk result (λ d. findings.new.items ≡ findings.old.items
+        ++ declared_faults (module_world setting.now.home.now
+        (imported_rows (map known_view setting.now.imports.now)) (shown_view d.value.shown))
+        (map (tree_view.declaration_view (tokens_view tokens.now)) declarations.now)) }
+{
+    let imported = Env::of(alloc, setting.imports)?;
+    let values = names_of(alloc, tokens, &names.values)?;
+    let declared = declared_types(
+        alloc,
+        tokens,
+        setting.home,
+        imported,
+        values,
+        declarations,
+        findings,
+    )?;
+    Ok(Box::new(alloc, declared)?)
+}
+
+/// The constructors that a module declares, and then the groups of its values. The faults in its values and ports are
+/// noted in `log`.
+fn meanings(
+    alloc: Global,
+    tokens: &[Token<'_>],
+    home: &Name,
+    world: &World,
+    log: &mut Log,
+    declarations: &[Declaration],
+) -> Result<Vec<canon::Declaration>, AllocError>
+    requires { AreLiterals (tokens_view tokens.now) }
+    ensures meaning { IfOk result (λ v. (w : naming.World) → IsWorld world.now w → w.name ≡ home.now
+        → map declaration_view v.items ≡ flat_map (spec.makers_in home.now)
+        (map (tree_view.declaration_view (tokens_view tokens.now)) declarations.now)
+        ++ value_groups w (map (tree_view.declaration_view (tokens_view tokens.now)) declarations.now)) }
+    ensures faults { OnOk result ((w : naming.World) → IsWorld world.now w → w.name ≡ home.now
+        → log.new.findings.items ≡ log.old.findings.items
+        ++ value_faults w (map (tree_view.declaration_view (tokens_view tokens.now)) declarations.now)) }
+{
+    let mut meanings = makers(alloc, tokens, home, declarations)?;
+    let mut groups = values(alloc, tokens, home, world, log, declarations)?;
+    meanings.append(&mut groups)?;
+    Ok(meanings)
+}
+
+/// A module with its types, its ports and its values.
+fn assembled(
+    alloc: Global,
+    home: &Name,
+    declared: Box<Declared>,
+    ports: Vec<PortDeclaration>,
+    declarations: Vec<canon::Declaration>,
+) -> Result<Module, AllocError>
+    ensures name { IfOk result (λ m. (module_view m).name ≡ home.now) }
+    ensures unions { IfOk result (λ m. (module_view m).unions ≡ (shown_view declared.value.shown).unions) }
+    ensures aliases { IfOk result (λ m. (module_view m).aliases ≡ (shown_view declared.value.shown).aliases) }
+    ensures ports { IfOk result (λ m. (module_view m).ports ≡ map port_declaration_view ports.items) }
+    ensures declarations { IfOk result (λ m. (module_view m).declarations
+        ≡ map declaration_view declarations.items) }
+{
+    let name = home.clone()?;
+    let Declared { shown, world: _ } = Box::into_inner(declared);
+    Ok(Module {
+        name,
+        unions: shown.unions,
+        aliases: shown.aliases,
+        ports,
+        declarations,
+    })
+}
+
+/// What the module `parsed` means, which is of the text of the tokens `tokens`, as the lexer makes them; what it shows
+/// to those that import it; and all faults of its imports, of the names that it declares and exposes, of its types, its
+/// ports and its values. It takes time in proportion to the text and to what its imports show, but for the order of
+/// groups and faults. The error means that memory ran out; so it does where there are 2 ^ 32 declarations, or
+/// constructors of one union, or more.
+pub fn resolve(
+    alloc: Global,
+    tokens: &[Token<'_>],
+    setting: &Setting<'_>,
+    parsed: &tree::Module,
+) -> Result<Resolved, AllocError>
+    requires { AreLiterals (tokens_view tokens.now) }
+    ensures module { IfOk result (λ r. spec.IsModule (setting_view (tokens_view tokens.now) setting.now)
+        (tree_view.module_view (tokens_view tokens.now) parsed.now).declarations (module_view r.module)) }
+    ensures one { IfOk result (λ r. (m : canon.Module) →
+        spec.IsModule (setting_view (tokens_view tokens.now) setting.now)
+        (tree_view.module_view (tokens_view tokens.now) parsed.now).declarations m → m ≡ module_view r.module) }
+    ensures shown { IfOk result (λ r. shown_view r.shown
+        ≡ spec.module_shows (setting_view (tokens_view tokens.now) setting.now)
+        (tree_view.module_view (tokens_view tokens.now) parsed.now) (module_view r.module)) }
+    ensures faults { IfOk result (λ r. IsInOrder
+        (spec.module_faults (setting_view (tokens_view tokens.now) setting.now)
+        (tree_view.module_view (tokens_view tokens.now) parsed.now) (module_view r.module)) r.faults.items) }
+{
+    let declarations = parsed.declarations.as_slice();
+    let header = &parsed.head.header;
+    let names = Names::of(alloc, declarations)?;
+    let mut log = Log::new(alloc);
+    log.findings = heading_faults(alloc, tokens, setting, &names, header)?;
+    let declared = declared(
+        alloc,
+        tokens,
+        setting,
+        &names,
+        declarations,
+        &mut log.findings,
+    )?;
+    let world = &declared.world;
+    let meanings = meanings(alloc, tokens, setting.home, world, &mut log, declarations)?;
+    let ports = ports(alloc, tokens, world, declarations)?;
+    let exposes = exposed_by(alloc, tokens, header)?;
+    let shown = shown_by(alloc, &exposes, setting.given, &declared.shown)?;
+    let faults = in_order(alloc, log.findings)?;
+    let module = assembled(alloc, setting.home, declared, ports, meanings)?;
+    Ok(Resolved {
+        module,
+        shown,
+        faults,
+    })
+}

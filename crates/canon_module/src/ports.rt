@@ -1,0 +1,58 @@
+//! The ports that a module declares.
+
+ghost use Rattle.std.specs.Prelude.{◌≡◌, ◌++◌, map, flat_map, IfOk, OnOk};
+ghost use Rattle.elm_tree.specs.View as tree_view;
+ghost use Rattle.elm_tree.specs.Turns.{tokens_view};
+ghost use Rattle.elm_canon.specs.View.{port_declaration_view};
+ghost use Rattle.canon_sites.specs.Naming as naming;
+ghost use Rattle.canon_sites.specs.Naming.{IsWorld};
+ghost use Rattle.canon_module.specs.Resolve.{ports_in};
+
+use canon_env::env::World;
+use canon_ports::port::resolve;
+use elm_canon::tree::PortDeclaration;
+use elm_lexer::token::Token;
+use elm_tree::tree::Declaration;
+use std::alloc::{AllocError, Global};
+
+/// Adds the port that a declaration is, if it is one.
+fn push_port(
+    alloc: Global,
+    tokens: &[Token<'_>],
+    world: &World,
+    declaration: &Declaration,
+    ports: &mut Vec<PortDeclaration>,
+) -> Result<(), AllocError>
+    ensures { OnOk result ((w : naming.World) → IsWorld world.now w → map port_declaration_view ports.new.items
+        ≡ map port_declaration_view ports.old.items
+        ++ ports_in w (tree_view.declaration_view (tokens_view tokens.now) declaration.now)) }
+{
+    match declaration {
+        Declaration::Value(_) => Ok(()),
+        Declaration::Port(name, written) => {
+            let mut known = Vec::new(alloc);
+            let port = resolve(alloc, tokens, world, *name, written, &mut known)?;
+            ports.push(port.declaration)?;
+            Ok(())
+        }
+        Declaration::Union(_, _, _) => Ok(()),
+        Declaration::Alias(_, _, _) => Ok(()),
+    }
+}
+
+/// The ports that the declarations of a module declare, in written order. Their faults are those of its values.
+pub(crate) fn ports(
+    alloc: Global,
+    tokens: &[Token<'_>],
+    world: &World,
+    declarations: &[Declaration],
+) -> Result<Vec<PortDeclaration>, AllocError>
+    ensures { IfOk result (λ v. (w : naming.World) → IsWorld world.now w → map port_declaration_view v.items
+        ≡ flat_map (ports_in w) (map (tree_view.declaration_view (tokens_view tokens.now)) declarations.now)) }
+{
+    let mut ports = Vec::new(alloc);
+    for declaration in declarations {
+        push_port(alloc, tokens, world, declaration, &mut ports)?;
+    }
+    Ok(ports)
+}

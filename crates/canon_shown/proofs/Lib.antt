@@ -1,0 +1,2 @@
+-- what a filter lets through is what is exposed
+pub mod Offering

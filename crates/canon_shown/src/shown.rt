@@ -1,0 +1,156 @@
+//! What a module shows of all that it has.
+
+ghost use Rattle.std.specs.Prelude.{◌≡◌, ◌++◌, map, option_map, IfOk, OnOk};
+ghost use Rattle.std.specs.List.{filter};
+ghost use Rattle.elm_tree.specs.View.{header_view};
+ghost use Rattle.elm_tree.specs.Turns.{tokens_view};
+ghost use Rattle.elm_canon.specs.View.{union_declaration_view};
+ghost use Rattle.canon_env.specs.Imports.{exposing_view};
+ghost use Rattle.canon_env.specs.Filter.{filter_value, filter_type, filter_makers};
+ghost use Rattle.canon_env.specs.Shown.{shown_view, unions_view, aliases_view};
+ghost use Rattle.canon_shown.specs.Offers as spec;
+
+use canon_env::filter::Filter;
+use canon_env::import::{Exposing, exposing_names};
+use canon_env::shown::Shown;
+use elm_canon::tree::{AliasDeclaration, UnionDeclaration};
+use elm_canon::unions::{Union, UnionShape};
+use elm_lexer::token::Token;
+use elm_names::name::Name;
+use elm_tree::tree::Header;
+use std::alloc::{AllocError, Global};
+use std::sync::Arc;
+
+/// What the header `header` exposes by the text of the tokens `tokens`. None: the module has no header, and exposes
+/// everything. The error means that memory ran out.
+pub fn exposed_by(
+    alloc: Global,
+    tokens: &[Token<'_>],
+    header: &Option<Header>,
+) -> Result<Exposing, AllocError>
+    ensures { IfOk result (λ e. exposing_view e
+        ≡ spec.exposed_by (option_map (header_view (tokens_view tokens.now)) header.now)) }
+{
+    match header {
+        Some(header) => exposing_names(alloc, tokens, &header.exposes),
+        None => Ok(Exposing::Everything),
+    }
+}
+
+/// The values that pass.
+fn values(alloc: Global, passing: &Filter, all: &[Name]) -> Result<Vec<Name>, AllocError>
+    ensures { IfOk result (λ v. v.items ≡ filter (filter_value passing.now) all.now) }
+{
+    let mut values = Vec::new(alloc);
+    for name in all {
+        if passing.passes_value(name) {
+            values.push(name.clone()?)?;
+        }
+    }
+    Ok(values)
+}
+
+/// A union without constructors.
+fn without_makers(alloc: Global, union: &Union) -> Result<Union, AllocError>
+    ensures { IfOk result (λ u. u ≡ spec.without_makers union.now) }
+{
+    match union.shape() {
+        UnionShape::Tuple(_) => union.clone(),
+        UnionShape::List => union.clone(),
+        UnionShape::Declared(home, name, _) => Union::new(
+            alloc,
+            UnionShape::Declared(home.clone()?, name.clone()?, Vec::new(alloc)),
+        ),
+    }
+}
+
+/// A union whose constructors nobody else knows.
+fn opaque(alloc: Global, union: &UnionDeclaration) -> Result<UnionDeclaration, AllocError>
+    ensures { IfOk result (λ u. union_declaration_view u ≡ spec.opaque (union_declaration_view union.now)) }
+{
+    let mut parameters = Vec::with_capacity(alloc, union.parameters.len())?;
+    for name in &union.parameters {
+        parameters.push(name.clone()?)?;
+    }
+    Ok(UnionDeclaration {
+        name: union.name.clone()?,
+        union: without_makers(alloc, &union.union)?,
+        parameters,
+        fields: Vec::new(alloc),
+    })
+}
+
+/// A union with its constructors if they pass.
+fn offered(
+    alloc: Global,
+    passing: &Filter,
+    union: &Arc<UnionDeclaration, Global>,
+) -> Result<Arc<UnionDeclaration, Global>, AllocError>
+    ensures { IfOk result (λ u. union_declaration_view u.value
+        ≡ spec.offered_by (filter_makers passing.now) (union_declaration_view union.now.value)) }
+{
+    if passing.passes_makers(&union.name) {
+        Arc::try_clone(union)
+    } else {
+        Ok(Arc::new(alloc, opaque(alloc, union)?)?)
+    }
+}
+
+/// Adds the unions that pass.
+fn push_unions(
+    alloc: Global,
+    passing: &Filter,
+    all: &[Arc<UnionDeclaration, Global>],
+    unions: &mut Vec<Arc<UnionDeclaration, Global>>,
+) -> Result<(), AllocError>
+    ensures { OnOk result (unions_view unions.new.items ≡ unions_view unions.old.items
+        ++ spec.unions_by (filter_type passing.now) (filter_makers passing.now) (unions_view all.now)) }
+{
+    for union in all {
+        if passing.passes_type(&union.name) {
+            unions.push(offered(alloc, passing, union)?)?;
+        }
+    }
+    Ok(())
+}
+
+/// The aliases that pass.
+fn aliases(
+    alloc: Global,
+    passing: &Filter,
+    all: &[Arc<AliasDeclaration, Global>],
+) -> Result<Vec<Arc<AliasDeclaration, Global>>, AllocError>
+    ensures { IfOk result (λ v. aliases_view v.items
+        ≡ spec.aliases_by (filter_type passing.now) (aliases_view all.now)) }
+{
+    let mut aliases = Vec::new(alloc);
+    for alias in all {
+        if passing.passes_type(&alias.name) {
+            aliases.push(Arc::try_clone(alias)?)?;
+        }
+    }
+    Ok(aliases)
+}
+
+/// What a module shows to those that import it, where its header exposes `exposes`: it declares `all`, and has the
+/// unions `given` without a text. A union whose constructors are not exposed has none. It takes time in proportion to
+/// what is declared and exposed. The error means that memory ran out.
+pub fn shown_by(
+    alloc: Global,
+    exposes: &Exposing,
+    given: &[Arc<UnionDeclaration, Global>],
+    all: &Shown,
+) -> Result<Shown, AllocError>
+    ensures { IfOk result (λ s. shown_view s
+        ≡ spec.shown_by (exposing_view exposes.now) (unions_view given.now) (shown_view all.now)) }
+{
+    let passing = Filter::of(alloc, exposes)?;
+    let mut unions = Vec::new(alloc);
+    push_unions(alloc, &passing, given, &mut unions)?;
+    push_unions(alloc, &passing, &all.unions, &mut unions)?;
+    Ok(Shown {
+        values: values(alloc, &passing, &all.values)?,
+        unions,
+        aliases: aliases(alloc, &passing, &all.aliases)?,
+    })
+}
