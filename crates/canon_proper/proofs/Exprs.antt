@@ -11,6 +11,7 @@ use Rattle.elm_tree.specs.Tree as tree
 use Rattle.elm_tree.specs.Tree.{Pos, Word}
 use Rattle.elm_canon.specs.Tree as canon
 use Rattle.elm_canon.specs.Tree.{Located, Annotation, exprs_of}
+use Rattle.elm_canon.specs.declared.reference.Ref.{Ref}
 use Rattle.elm_canon.specs.declared.reference.Ref.TheVariants.{Local}
 use Rattle.canon_env.specs.Imports.{name_of}
 use Rattle.canon_sites.specs.Naming.{World, maker_found}
@@ -26,7 +27,7 @@ use Rattle.canon_leaves.specs.Exprs.{expr_sites, exprs_sites, part_sites, chain_
 use Rattle.canon_leaves.specs.Exprs.{definition_sites, callee, meant, meant_each, meant_parts, callees, meant_branches}
 use Rattle.canon_leaves.specs.Exprs.{made_in, made_by, annotation_of, part_words, accessed, one, block_groups}
 use Rattle.canon_leaves.specs.Exprs.{long_word}
-use Rattle.elm_proper.specs.Spelled.{is_word, are_fields}
+use Rattle.elm_proper.specs.Spelled.{is_word, is_spelled, are_fields}
 use Rattle.elm_proper.specs.Proper as proper
 use Rattle.elm_proper.specs.Proper.{Scope, AreFresh, with_all, Proper, Binds, BindsAll, ProperBranches}
 use Rattle.elm_proper.specs.Proper.{all_bound_by, after, ProperGroups}
@@ -43,7 +44,8 @@ use Rattle.canon_proper.proofs.Stands.{Stands, IsQuiet, AreQuiet, quiet_split, q
 use Rattle.canon_proper.proofs.Stands.{maker_one, operator_known, all_quiet}
 use Rattle.canon_proper.proofs.Made.{ProperMade, IsWell, is_functional}
 use Rattle.canon_proper.proofs.Apart.{Apart, fresh_none}
-use Rattle.canon_proper.proofs.Blocks.{flat, block_proper}
+use Rattle.canon_proper.proofs.Steps.{flat}
+use Rattle.canon_proper.proofs.Blocks.{block_proper}
 
 -- ---- parts
 
@@ -103,12 +105,12 @@ pub functions_are : (w : World) (locals : Locals) (ps : tree.Patterns) (e : tree
 functions_are w locals tree.NoPattern e h = lambda_function w _ e h
 functions_are w locals (tree.MorePattern p ps) e h = refl
 
-define_proper : (w : World) (locals : Locals) (scope : Scope) (x : Word) (ps : tree.Patterns) (e : tree.Expr)
-    (before : Option Annotation) (body : canon.Expr) → is_word (name_of x) ≡ true →
+pub define_proper : (w : World) (scope : Scope) (r : Ref) (place : Pos) (ps : tree.Patterns) (e : tree.Expr)
+    (before : Option Annotation) (body : canon.Expr) → is_spelled r ≡ true →
     (is_function ps e ≡ true → proper.is_function (patterns_of w ps) body ≡ true) → BindsAll (patterns_of w ps) scope →
     Proper (with_all (all_bound_by (patterns_of w ps)) scope) body →
-    ProperMade scope (x ∷ []) (made_of (is_function ps e) (title_of (Local (name_of x)) x.place before) (patterns_of w ps) body)
-define_proper w locals scope x ps e before body s f binds p = by (is_function ps e) refl
+    ProperMade scope (r ∷ []) (made_of (is_function ps e) (title_of r place before) (patterns_of w ps) body)
+define_proper w scope r place ps e before body s f binds p = by (is_function ps e) refl
   where
     constant : (qs : tree.Patterns) → is_function qs e ≡ false →
         Proper (with_all (all_bound_by (patterns_of w qs)) scope) body → Proper scope body
@@ -116,7 +118,7 @@ define_proper w locals scope x ps e before body s f binds p = by (is_function ps
     constant (tree.MorePattern q qs) h p = absurd (false≢true (sym h))
 
     by : (b : Bool) → is_function ps e ≡ b →
-        ProperMade scope (x ∷ []) (made_of b (title_of (Local (name_of x)) x.place before) (patterns_of w ps) body)
+        ProperMade scope (r ∷ []) (made_of b (title_of r place before) (patterns_of w ps) body)
     by true h = (refl, s, f h, binds, p)
     by false h = (refl, s, constant ps h p)
 
@@ -137,7 +139,7 @@ quiet_at w shown [] q i = tt
 quiet_at w shown (s ∷ each) q zero = (quiet_split w shown s (joined_sites each) q).0
 quiet_at w shown (s ∷ each) q (suc i) = quiet_at w shown each (quiet_split w shown s (joined_sites each) q).1 i
 
-not_recursive : (w : World) (reaches : Bool) (d : Defined) → faults_at w (Reaching reaches d) ≡ [] → reaches ≡ true →
+pub not_recursive : (w : World) (reaches : Bool) (d : Defined) → faults_at w (Reaching reaches d) ≡ [] → reaches ≡ true →
     d.is_function ≡ true
 unfolding faults_at
 not_recursive w true d none e = by d.is_function none
@@ -375,7 +377,7 @@ module _ (w : World) (has : HasMakers w) where
         (stands_with w shown locals scope (words_of_all ps) st) s.1.1 r.1 in
         let proper_body = subst (λ rs. Proper (with_all rs scope) (meant w (with_names (words_of_all ps) locals) e))
         (sym binds.1) (finished_proper _ _ body) in
-        define_proper w locals scope x ps e before (meant w (with_names (words_of_all ps) locals) e) s.0
+        define_proper w scope (Local (name_of x)) x.place ps e before (meant w (with_names (words_of_all ps) locals) e) s.0
         (functions_are w locals ps e) binds.0 proper_body
     definition_well (tree.Destructure p e) before locals s = λ shown scope st f q.
         let r = quiet_split w shown (match_sites p) (expr_sites w locals e) q in

@@ -12,6 +12,8 @@ pub mod Stands
 pub mod Apart
 -- what the definitions of a block become
 pub mod Made
+-- groups of definitions that use each other
+pub mod Steps
 -- the groups of a block
 pub mod Blocks
 -- expressions without faults

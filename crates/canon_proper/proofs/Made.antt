@@ -14,15 +14,15 @@ use Rattle.elm_proper.specs.Proper.{is_function, ProperGroups, ProperFunctions, 
 use Rattle.canon_proper.proofs.Scopes.{refs}
 use Rattle.canon_proper.proofs.Stands.{Stands, AreQuiet}
 
--- it binds these words
-abbrev pub ProperMade : Scope → List Word → Made → Type 0
-ProperMade scope words NoMade = words ≡ []
-ProperMade scope words (MadeFunction title ps e) =
-    (refs words ≡ title.name ∷ []) × (is_spelled title.name ≡ true) × (is_function ps e ≡ true)
+-- it gives these names
+abbrev pub ProperMade : Scope → List Ref → Made → Type 0
+ProperMade scope names NoMade = names ≡ []
+ProperMade scope names (MadeFunction title ps e) =
+    (names ≡ title.name ∷ []) × (is_spelled title.name ≡ true) × (is_function ps e ≡ true)
     × BindsAll ps scope × Proper (with_all (all_bound_by ps) scope) e
-ProperMade scope words (MadeConstant title e) =
-    (refs words ≡ title.name ∷ []) × (is_spelled title.name ≡ true) × Proper scope e
-ProperMade scope words (MadeParts p e) = (refs words ≡ bound_by p) × ProperPattern p × Proper scope e
+ProperMade scope names (MadeConstant title e) =
+    (names ≡ title.name ∷ []) × (is_spelled title.name ≡ true) × Proper scope e
+ProperMade scope names (MadeParts p e) = (names ≡ bound_by p) × ProperPattern p × Proper scope e
 
 abbrev pub is_functional : Made → Bool
 is_functional NoMade = true
@@ -34,22 +34,22 @@ is_functional (MadeParts p e) = false
 abbrev pub IsWell : World → Locals → List Word → List Site → Made → Type 0
 IsWell w locals words sites m =
     (shown : Pos → Bool) (scope : Scope) → Stands w shown locals scope → AreFresh (refs words) [] →
-    AreQuiet w shown sites → ProperMade scope words m
+    AreQuiet w shown sites → ProperMade scope (refs words) m
 
 abbrev pub GoodFunctions : Scope → List Made → List Ref → Type 0
 GoodFunctions scope ms ns = ProperFunctions scope (functions_in ms) × (function_names (functions_in ms) ≡ ns)
 
 -- one more function of a group
-pub one_function : (scope : Scope) (words : List Word) (m : Made) (ms : List Made) (ns : List Ref) →
-    ProperMade scope words m → is_functional m ≡ true → GoodFunctions scope ms ns →
-    GoodFunctions scope (m ∷ ms) (refs words ++ ns)
-one_function scope words NoMade ms ns p e r = (r.0, r.1 ∙ ap (λ ws. refs ws ++ ns) (sym p))
-one_function scope words (MadeFunction title ps body) ms ns p e r = (
+pub one_function : (scope : Scope) (names : List Ref) (m : Made) (ms : List Made) (ns : List Ref) →
+    ProperMade scope names m → is_functional m ≡ true → GoodFunctions scope ms ns →
+    GoodFunctions scope (m ∷ ms) (names ++ ns)
+one_function scope names NoMade ms ns p e r = (r.0, r.1 ∙ ap (λ rs. rs ++ ns) (sym p))
+one_function scope names (MadeFunction title ps body) ms ns p e r = (
   (p.1, (p.2, (p.3, (p.4, r.0)))),
   ap (λ rs. title.name ∷ rs) r.1 ∙ ap (λ rs. rs ++ ns) (sym p.0),
 )
-one_function scope words (MadeConstant title body) ms ns p e r = absurd (false≢true e)
-one_function scope words (MadeParts q body) ms ns p e r = absurd (false≢true e)
+one_function scope names (MadeConstant title body) ms ns p e r = absurd (false≢true e)
+one_function scope names (MadeParts q body) ms ns p e r = absurd (false≢true e)
 
 -- two definitions or more are functions together
 pub two_together : (m n : Made) (ms : List Made) → group_of (m ∷ n ∷ ms) ≡ Together (functions_in (m ∷ n ∷ ms)) ∷ []

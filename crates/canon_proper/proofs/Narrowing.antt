@@ -12,8 +12,8 @@ use Rattle.elm_proper.specs.Proper.{Proper, AllProper, ProperBranches, ProperGro
 use Rattle.elm_proper.specs.Proper.{function_names, group_names}
 use Rattle.group_order.proofs.Ordering.{not_true}
 use Rattle.std.proofs.lemmas.Bool.{false≢true}
-use Rattle.canon_proper.specs.Narrower.{IsNarrower, HasAll}
-use Rattle.canon_proper.proofs.Scopes.{among-with_all, in_first, in_more}
+use Rattle.canon_proper.specs.Narrower.{IsNarrower, KeepsAll}
+use Rattle.canon_proper.proofs.Scopes.{among-with_all, in_first}
 use Rattle.canon_proper.proofs.Apart.{fresh_less, in_left, in_right}
 
 more_or : (c p q : Bool) → (p ≡ true → q ≡ true) → (c || p) ≡ true → (c || q) ≡ true
@@ -37,100 +37,101 @@ narrower_after NoGroup a b n = n
 narrower_after (MoreGroup g gs) a b n =
     narrower_after gs (with_all (group_names g) a) (with_all (group_names g) b) (narrower_with (group_names g) a b n)
 
-has_with : (xs : List Ref) (b : Scope) (refs : List Ref) → HasAll b refs → HasAll (with_all xs b) refs
-has_with xs b refs h = λ r e. in_more r xs b (h r e)
+pub keeps_with : (xs : List Ref) (a b : Scope) (refs : List Ref) → KeepsAll a b refs →
+    KeepsAll (with_all xs a) (with_all xs b) refs
+keeps_with xs a b refs h = λ r i e. kept_with r xs a b (h r i) e
 
-has_after : (gs : Groups) (b : Scope) (refs : List Ref) → HasAll b refs → HasAll (after gs b) refs
-has_after NoGroup b refs h = h
-has_after (MoreGroup g gs) b refs h =
-    has_after gs (with_all (group_names g) b) refs (has_with (group_names g) b refs h)
+keeps_after : (gs : Groups) (a b : Scope) (refs : List Ref) → KeepsAll a b refs → KeepsAll (after gs a) (after gs b) refs
+keeps_after NoGroup a b refs h = h
+keeps_after (MoreGroup g gs) a b refs h =
+    keeps_after gs (with_all (group_names g) a) (with_all (group_names g) b) refs (keeps_with (group_names g) a b refs h)
 
-has_left : (b : Scope) (xs ys : List Ref) → HasAll b (xs ++ ys) → HasAll b xs
-has_left b xs ys h = λ r e. h r (in_left r xs ys e)
+keeps_left : (a b : Scope) (xs ys : List Ref) → KeepsAll a b (xs ++ ys) → KeepsAll a b xs
+keeps_left a b xs ys h = λ r i. h r (in_left r xs ys i)
 
-has_right : (b : Scope) (xs ys : List Ref) → HasAll b (xs ++ ys) → HasAll b ys
-has_right b xs ys h = λ r e. h r (in_right r xs ys e)
+keeps_right : (a b : Scope) (xs ys : List Ref) → KeepsAll a b (xs ++ ys) → KeepsAll a b ys
+keeps_right a b xs ys h = λ r i. h r (in_right r xs ys i)
 
 fresh_narrower : (xs : List Ref) (a b : Scope) → IsNarrower a b → AreFresh xs a → AreFresh xs b
 fresh_narrower xs a b n f = fresh_less xs a b n.within f
 
 mutual
-  pub narrow : (e : Expr) (a b : Scope) → IsNarrower a b → HasAll b (expr_uses e) → Proper a e → Proper b e
+  pub narrow : (e : Expr) (a b : Scope) → IsNarrower a b → KeepsAll a b (expr_uses e) → Proper a e → Proper b e
   narrow (Is l) a b n h p = p
   narrow (NameOf (Local x)) a b n h p = n.locals x p
-  narrow (NameOf (Top m x)) a b n h p = h (Top m x) (in_first (Top m x) [])
+  narrow (NameOf (Top m x)) a b n h p = h (Top m x) (in_first (Top m x) []) p
   narrow (Accessor k) a b n h p = p
   narrow (Lambda ps e) a b n h p = (
     p.0,
     (
       (p.1.0.0, fresh_narrower (all_bound_by ps) a b n p.1.0.1),
       narrow e (with_all (all_bound_by ps) a) (with_all (all_bound_by ps) b) (narrower_with (all_bound_by ps) a b n)
-          (has_with (all_bound_by ps) b (expr_uses e) h) p.1.1,
+          (keeps_with (all_bound_by ps) a b (expr_uses e) h) p.1.1,
     ),
   )
   narrow (Apply f es) a b n h p = (
-    narrow f a b n (has_left b (expr_uses f) (exprs_uses es) h) p.0,
-    narrow_all es a b n (has_right b (expr_uses f) (exprs_uses es) h) p.1,
+    narrow f a b n (keeps_left a b (expr_uses f) (exprs_uses es) h) p.0,
+    narrow_all es a b n (keeps_right a b (expr_uses f) (exprs_uses es) h) p.1,
   )
   narrow (Strict op es) a b n h p = (p.0, narrow_all es a b n h p.1)
   narrow (If c d e) a b n h p =
-      let k = has_left b (expr_uses c ++ expr_uses d) (expr_uses e) h in (
-        narrow c a b n (has_left b (expr_uses c) (expr_uses d) k) p.0,
+      let k = keeps_left a b (expr_uses c ++ expr_uses d) (expr_uses e) h in (
+        narrow c a b n (keeps_left a b (expr_uses c) (expr_uses d) k) p.0,
         (
-          narrow d a b n (has_right b (expr_uses c) (expr_uses d) k) p.1.0,
-          narrow e a b n (has_right b (expr_uses c ++ expr_uses d) (expr_uses e) h) p.1.1,
+          narrow d a b n (keeps_right a b (expr_uses c) (expr_uses d) k) p.1.0,
+          narrow e a b n (keeps_right a b (expr_uses c ++ expr_uses d) (expr_uses e) h) p.1.1,
         ),
       )
   narrow (Logical place op d e) a b n h p = (
-    narrow d a b n (has_left b (expr_uses d) (expr_uses e) h) p.0,
-    narrow e a b n (has_right b (expr_uses d) (expr_uses e) h) p.1,
+    narrow d a b n (keeps_left a b (expr_uses d) (expr_uses e) h) p.0,
+    narrow e a b n (keeps_right a b (expr_uses d) (expr_uses e) h) p.1,
   )
   narrow (Let gs e) a b n h p = (
-    narrow_groups gs a b n (has_left b (groups_uses gs) (expr_uses e) h) p.0,
+    narrow_groups gs a b n (keeps_left a b (groups_uses gs) (expr_uses e) h) p.0,
     narrow e (after gs a) (after gs b) (narrower_after gs a b n)
-        (has_after gs b (expr_uses e) (has_right b (groups_uses gs) (expr_uses e) h)) p.1,
+        (keeps_after gs a b (expr_uses e) (keeps_right a b (groups_uses gs) (expr_uses e) h)) p.1,
   )
   narrow (Case e bs) a b n h p = (
-    narrow e a b n (has_left b (expr_uses e) (branches_uses bs) h) p.0,
-    narrow_branches bs a b n (has_right b (expr_uses e) (branches_uses bs) h) p.1,
+    narrow e a b n (keeps_left a b (expr_uses e) (branches_uses bs) h) p.0,
+    narrow_branches bs a b n (keeps_right a b (expr_uses e) (branches_uses bs) h) p.1,
   )
   narrow (Located place e) a b n h p = narrow e a b n h p
 
-  pub narrow_all : (es : Exprs) (a b : Scope) → IsNarrower a b → HasAll b (exprs_uses es) → AllProper a es →
+  pub narrow_all : (es : Exprs) (a b : Scope) → IsNarrower a b → KeepsAll a b (exprs_uses es) → AllProper a es →
       AllProper b es
   narrow_all NoExpr a b n h p = tt
   narrow_all (MoreExpr e es) a b n h p = (
-    narrow e a b n (has_left b (expr_uses e) (exprs_uses es) h) p.0,
-    narrow_all es a b n (has_right b (expr_uses e) (exprs_uses es) h) p.1,
+    narrow e a b n (keeps_left a b (expr_uses e) (exprs_uses es) h) p.0,
+    narrow_all es a b n (keeps_right a b (expr_uses e) (exprs_uses es) h) p.1,
   )
 
-  pub narrow_branches : (bs : Branches) (a b : Scope) → IsNarrower a b → HasAll b (branches_uses bs) →
+  pub narrow_branches : (bs : Branches) (a b : Scope) → IsNarrower a b → KeepsAll a b (branches_uses bs) →
       ProperBranches a bs → ProperBranches b bs
   narrow_branches NoBranch a b n h p = tt
   narrow_branches (MoreBranch q e bs) a b n h p = (
     (p.0.0, fresh_narrower (bound_by q) a b n p.0.1),
     (
       narrow e (with_all (bound_by q) a) (with_all (bound_by q) b) (narrower_with (bound_by q) a b n)
-          (has_with (bound_by q) b (expr_uses e) (has_left b (expr_uses e) (branches_uses bs) h)) p.1.0,
-      narrow_branches bs a b n (has_right b (expr_uses e) (branches_uses bs) h) p.1.1,
+          (keeps_with (bound_by q) a b (expr_uses e) (keeps_left a b (expr_uses e) (branches_uses bs) h)) p.1.0,
+      narrow_branches bs a b n (keeps_right a b (expr_uses e) (branches_uses bs) h) p.1.1,
     ),
   )
 
-  pub narrow_groups : (gs : Groups) (a b : Scope) → IsNarrower a b → HasAll b (groups_uses gs) → ProperGroups a gs →
+  pub narrow_groups : (gs : Groups) (a b : Scope) → IsNarrower a b → KeepsAll a b (groups_uses gs) → ProperGroups a gs →
       ProperGroups b gs
   narrow_groups NoGroup a b n h p = tt
   narrow_groups (MoreGroup g gs) a b n h p = (
-    narrow_group g a b n (has_left b (group_uses g) (groups_uses gs) h) p.0,
+    narrow_group g a b n (keeps_left a b (group_uses g) (groups_uses gs) h) p.0,
     narrow_groups gs (with_all (group_names g) a) (with_all (group_names g) b) (narrower_with (group_names g) a b n)
-        (has_with (group_names g) b (groups_uses gs) (has_right b (group_uses g) (groups_uses gs) h)) p.1,
+        (keeps_with (group_names g) a b (groups_uses gs) (keeps_right a b (group_uses g) (groups_uses gs) h)) p.1,
   )
 
-  pub narrow_group : (g : Group) (a b : Scope) → IsNarrower a b → HasAll b (group_uses g) → ProperGroup a g →
+  pub narrow_group : (g : Group) (a b : Scope) → IsNarrower a b → KeepsAll a b (group_uses g) → ProperGroup a g →
       ProperGroup b g
   narrow_group (Together fs) a b n h p = (
     fresh_narrower (function_names fs) a b n p.0,
     narrow_functions fs (with_all (function_names fs) a) (with_all (function_names fs) b)
-        (narrower_with (function_names fs) a b n) (has_with (function_names fs) b (functions_uses fs) h) p.1,
+        (narrower_with (function_names fs) a b n) (keeps_with (function_names fs) a b (functions_uses fs) h) p.1,
   )
   narrow_group (Constant title e) a b n h p = (
     p.0,
@@ -142,7 +143,7 @@ mutual
   narrow_group (Destructure q e) a b n h p =
       ((p.0.0, fresh_narrower (bound_by q) a b n p.0.1), narrow e a b n h p.1)
 
-  pub narrow_functions : (fs : Functions) (a b : Scope) → IsNarrower a b → HasAll b (functions_uses fs) →
+  pub narrow_functions : (fs : Functions) (a b : Scope) → IsNarrower a b → KeepsAll a b (functions_uses fs) →
       ProperFunctions a fs → ProperFunctions b fs
   narrow_functions NoFunction a b n h p = tt
   narrow_functions (MoreFunction title ps e fs) a b n h p = (
@@ -153,8 +154,8 @@ mutual
         (p.1.1.0.0, fresh_narrower (all_bound_by ps) a b n p.1.1.0.1),
         (
           narrow e (with_all (all_bound_by ps) a) (with_all (all_bound_by ps) b) (narrower_with (all_bound_by ps) a b n)
-              (has_with (all_bound_by ps) b (expr_uses e) (has_left b (expr_uses e) (functions_uses fs) h)) p.1.1.1.0,
-          narrow_functions fs a b n (has_right b (expr_uses e) (functions_uses fs) h) p.1.1.1.1,
+              (keeps_with (all_bound_by ps) a b (expr_uses e) (keeps_left a b (expr_uses e) (functions_uses fs) h)) p.1.1.1.0,
+          narrow_functions fs a b n (keeps_right a b (expr_uses e) (functions_uses fs) h) p.1.1.1.1,
         ),
       ),
     ),

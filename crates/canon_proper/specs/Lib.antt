@@ -3,3 +3,4 @@ pub mod Worlds
 pub mod Written
 pub mod Narrower
 pub mod Rows
+pub mod Declared

@@ -10,6 +10,6 @@ pub record IsNarrower (a b : Scope) : Type 0 where
   pub within : (r : Ref) → IsIn r b → IsIn r a
   pub locals : (x : Name) → IsIn (Local x) a → IsIn (Local x) b
 
--- these names are in scope
-abbrev pub HasAll : Scope → List Ref → Type 0
-HasAll scope refs = (r : Ref) → IsIn r refs → IsIn r scope
+-- of these names, the second scope has those that the first has
+abbrev pub KeepsAll : Scope → Scope → List Ref → Type 0
+KeepsAll a b refs = (r : Ref) → IsIn r refs → IsIn r a → IsIn r b

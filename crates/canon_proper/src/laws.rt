@@ -12,7 +12,7 @@ ghost use Rattle.canon_blocks.specs.Binding.{is_function};
 ghost use Rattle.canon_leaves.specs.Exprs.{expr_sites, meant};
 ghost use Rattle.elm_proper.specs.Proper as proper;
 ghost use Rattle.elm_proper.specs.Proper.{Scope, Binds, BindsAll, Proper, ProperGroup, all_bound_by, with_all};
-ghost use Rattle.canon_proper.specs.Narrower.{IsNarrower, HasAll};
+ghost use Rattle.canon_proper.specs.Narrower.{IsNarrower, KeepsAll};
 ghost use Rattle.canon_proper.specs.Patterns.{IsSpelledPattern, AreSpelledPatterns};
 ghost use Rattle.canon_proper.specs.Written.{IsSpelled};
 ghost use Rattle.canon_proper.specs.Worlds.{HasMakers, HasNames, IsScopeOf, AreMakers};
@@ -47,11 +47,12 @@ pub fn definition_law()
         → proper.is_function (patterns_of w ps) (meant w (with_names (words_of_all ps) locals) e) ≡ true }
 {}
 
-/// What is proper in a scope is proper in a narrower one that has the names of modules that it uses: so a group of
-/// definitions is proper after those that it uses, wherever it is among all names of the module.
+/// What is proper in a scope is proper in a narrower one that has, of the names of modules that it uses, those that the
+/// scope has: so a group of definitions is proper after those that it uses, wherever it is among all names of the
+/// module.
 pub fn narrower_law()
-    ensures expr { (e : canon.Expr) (a b : Scope) → IsNarrower a b → HasAll b (expr_uses e) → Proper a e → Proper b e }
-    ensures group { (g : canon.Group) (a b : Scope) → IsNarrower a b → HasAll b (group_uses g) → ProperGroup a g
+    ensures expr { (e : canon.Expr) (a b : Scope) → IsNarrower a b → KeepsAll a b (expr_uses e) → Proper a e → Proper b e }
+    ensures group { (g : canon.Group) (a b : Scope) → IsNarrower a b → KeepsAll a b (group_uses g) → ProperGroup a g
         → ProperGroup b g }
 {}
 

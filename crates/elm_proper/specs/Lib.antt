@@ -1,3 +1,4 @@
 pub mod Spelled
 pub mod Constructors
 pub mod Proper
+pub mod Declarations

@@ -1,0 +1,2 @@
+-- what a text guarantees of its declarations
+pub mod Read
