@@ -4,15 +4,15 @@
 # 1,000,000 numbers, where the second time should be about twice the first. Prints the bytes of each text, the greatest
 # memory and the time.
 #
-# The program is syntax_cases, which this builds; PROGRAM names one that is built already.
+# The program is elm_cases, which this builds; PROGRAM names one that is built already.
 set -eu
 
 root="$(cd "$(dirname "${BASH_SOURCE[0]}")/.." && pwd)"
-program="${PROGRAM:-$root/crates/syntax_cases/out/syntax_cases}"
+program="${PROGRAM:-$root/crates/elm_cases/out/elm_cases}"
 if [ -z "${PROGRAM:-}" ]; then
-    (cd "$root/crates/syntax_cases" && rt run -- read) >/dev/null 2>&1 </dev/null || true
+    (cd "$root/crates/elm_cases" && rt run -- read) >/dev/null 2>&1 </dev/null || true
 fi
-[ -x "$program" ] || { echo "syntax_cases is not built" >&2; exit 1; }
+[ -x "$program" ] || { echo "elm_cases is not built" >&2; exit 1; }
 folder="$(mktemp -d)"
 trap 'rm -rf "$folder"' EXIT
 cd "$folder"

@@ -1,0 +1,5 @@
+module Debug exposing (todo)
+
+
+todo value =
+    value

@@ -1,0 +1,9 @@
+module Left exposing (height, size)
+
+
+size =
+    1
+
+
+height =
+    2

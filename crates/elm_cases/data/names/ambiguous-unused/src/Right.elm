@@ -1,0 +1,5 @@
+module Right exposing (size)
+
+
+size =
+    3

@@ -1,0 +1,6 @@
+module A exposing (a)
+import C
+
+
+a =
+    1

@@ -1,0 +1,7 @@
+module Main exposing (main)
+import C
+import A
+
+
+main =
+    A.a

@@ -1,0 +1,5 @@
+module Left exposing (size)
+
+
+size =
+    2

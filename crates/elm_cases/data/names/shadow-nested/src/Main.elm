@@ -1,0 +1,14 @@
+module Main exposing (main)
+
+
+main =
+    \x ->
+        let
+            y =
+                let
+                    x =
+                        1
+                in
+                x
+        in
+        y
