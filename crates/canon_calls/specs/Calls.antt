@@ -9,7 +9,7 @@ use Rattle.canon_calls.specs.declared.callee.Callee as program
 
 abbrev pub head_view : Head → plain.Head
 head_view (head.Maker place home x u c) = Maker place home x u c
-head_view (head.Plain e) = Plain (expr_view e)
+head_view (head.Plain e) = Plain (expr_view e.value)
 
 abbrev pub callee_view : program.Callee → Callee
 callee_view c = record { head = head_view c.head; arguments = map expr_view c.arguments.items }

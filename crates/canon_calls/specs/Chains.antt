@@ -35,11 +35,11 @@ worked_off ws c (o ∷ os) = worked_off ((reached ws c o.0, o.0) ∷ waits_on ws
 -- ---- what the program keeps
 
 abbrev pub left_view : List Token → Waiting → Left
-left_view tokens w = (callee_view w.callee, word_view tokens w.operator)
+left_view tokens w = (callee_view w.callee.value, word_view tokens w.operator)
 
 -- the nearest first, which is the last one that came
 abbrev pub waiting_view : List Token → List Waiting → List Left
 waiting_view tokens ws = map (left_view tokens) (reverse ws)
 
 abbrev pub operand_view : List Token → Operand → Word × Callee
-operand_view tokens o = (word_view tokens o.operator, callee_view o.callee)
+operand_view tokens o = (word_view tokens o.operator, callee_view o.callee.value)

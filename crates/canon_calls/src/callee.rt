@@ -1,12 +1,13 @@
 //! What is called, with its arguments so far.
 
-ghost use Rattle.std.specs.Prelude.{◌≡◌, ◌++◌, ◌∷◌, [], map, IfOk};
-ghost use Rattle.elm_canon.specs.View.{expr_view, link_view, linked, done};
+ghost use Rattle.std.specs.Prelude.{◌≡◌, ◌++◌, ◌∷◌, [], map, IfOk, OnOk};
+ghost use Rattle.elm_canon.specs.View.{expr_view};
 ghost use Rattle.elm_canon.specs.Tree.{Located, Strict, Build, exprs_of};
 ghost use Rattle.canon_calls.specs.Callees as spec;
 ghost use Rattle.canon_calls.specs.Calls.{head_view, callee_view};
-ghost use Rattle.canon_calls.specs.Parts.{AreParts};
+ghost use Rattle.canon_calls.specs.Parts.{in_box};
 
+use crate::links::then;
 use elm_base::position::Pos;
 use elm_canon::reference::Ref;
 use elm_canon::tree::{Expr, Link, Op};
@@ -20,7 +21,7 @@ pub enum Head {
     /// A constructor of a union: where its name stands, its module, its name, its union and what tells it.
     Maker(Pos, Name, Name, Union, Alternative),
     /// Any other expression.
-    Plain(Expr),
+    Plain(Box<Expr>),
 }
 
 /// What is called, with its arguments so far.
@@ -32,8 +33,8 @@ pub struct Callee {
 
 impl Callee {
     /// The expression `expr` without arguments.
-    pub fn plain(alloc: Global, expr: Expr) -> Callee
-        ensures { callee_view result ≡ spec.plain (expr_view expr) }
+    pub fn plain(alloc: Global, expr: Box<Expr>) -> Callee
+        ensures { callee_view result ≡ spec.plain (expr_view expr.value) }
     {
         Callee {
             head: Head::Plain(expr),
@@ -41,23 +42,28 @@ impl Callee {
         }
     }
 
+    /// The same, with the expression not in a box. The error means that memory ran out.
+    pub fn of(alloc: Global, expr: Expr) -> Result<Callee, AllocError>
+        ensures { IfOk result (λ c. callee_view c ≡ spec.plain (expr_view expr)) }
+    {
+        Ok(Callee::plain(alloc, Box::new(alloc, expr)?))
+    }
+
     /// The expression `expr`, which begins at `place`, without arguments. The error means that memory ran out.
     #[tactic(auto, using(elm_canon::proofs::Views::located))]
     pub fn at(alloc: Global, place: Pos, expr: Expr) -> Result<Callee, AllocError>
         ensures { IfOk result (λ c. callee_view c ≡ spec.plain (Located place (expr_view expr))) }
     {
-        let expr = Expr::Located(place, Box::new(alloc, expr)?);
-        Ok(Callee::plain(alloc, expr))
+        let expr = Box::new(alloc, expr)?;
+        Callee::of(alloc, Expr::Located(place, expr))
     }
 
-    /// The same with the argument `argument` after the others. The error means that memory ran out.
-    pub fn push(self, argument: Expr) -> Result<Callee, AllocError>
-        ensures { IfOk result (λ c. callee_view c
-            ≡ spec.with_arguments (callee_view self) (expr_view argument ∷ [])) }
+    /// Puts the argument `argument` after the others. The error means that memory ran out.
+    pub fn push(&mut self, argument: Box<Expr>) -> Result<(), AllocError>
+        ensures { OnOk result (callee_view self.new
+            ≡ spec.with_arguments (callee_view self.old) (expr_view argument.value ∷ [])) }
     {
-        let mut callee = self;
-        callee.arguments.push(argument)?;
-        Ok(callee)
+        push_part(&mut self.arguments, argument)
     }
 
     /// The same with the arguments `arguments` after the others. The error means that memory ran out.
@@ -72,106 +78,75 @@ impl Callee {
     }
 
     /// What the call means once it has all of its arguments. The error means that memory ran out.
-    pub fn finish(self, alloc: Global) -> Result<Expr, AllocError>
-        ensures { IfOk result (λ e. expr_view e ≡ spec.finished (callee_view self)) }
+    pub fn finish(self, alloc: Global) -> Result<Box<Expr>, AllocError>
+        ensures { IfOk result (λ e. expr_view e.value ≡ spec.finished (callee_view self)) }
     {
         let Callee { head, arguments } = self;
         match head {
             Head::Plain(expr) => given(alloc, expr, arguments),
             Head::Maker(place, home, name, union, alternative) => {
                 if arguments.len() == alternative.arity {
-                    built(place, union, alternative, arguments)
+                    built(alloc, place, union, alternative, arguments)
                 } else {
-                    given(alloc, top_name(alloc, place, home, name)?, arguments)
+                    named(alloc, place, home, name, arguments)
                 }
             }
         }
     }
 }
 
-/// An expression as the first of a chain.
-#[derive(Drop)]
-pub(crate) struct Opened {
-    first: Box<Expr>,
-    links: Vec<Link>,
-}
-
-impl Opened {
-    /// A chain that goes on is taken apart, so that it nests no deeper.
-    #[tactic(auto, using(elm_canon::proofs::Views::chain))]
-    pub(crate) fn of(alloc: Global, expr: Expr) -> Result<Opened, AllocError>
-        ensures { IfOk result (λ o. linked (expr_view o.first.value) (map link_view o.links.items) ≡ expr_view expr) }
-    {
-        match expr {
-            Expr::Chain(first, links) => Ok(Opened { first, links }),
-            other => Ok(Opened {
-                first: Box::new(alloc, other)?,
-                links: Vec::new(alloc),
-            }),
-        }
-    }
-
-    /// The expression.
-    #[tactic(auto, using(elm_canon::proofs::Views::chain))]
-    pub(crate) fn close(self) -> Expr
-        ensures { expr_view result ≡ linked (expr_view self.first.value) (map link_view self.links.items) }
-    {
-        Expr::Chain(self.first, self.links)
-    }
-
-    /// The expression, and what is done with it.
-    #[tactic(auto, using(elm_canon::proofs::Views::chain, crate::proofs::Links::one_more))]
-    pub(crate) fn then(self, link: Link) -> Result<Expr, AllocError>
-        ensures { IfOk result (λ e. expr_view e
-            ≡ done (link_view link) (linked (expr_view self.first.value) (map link_view self.links.items))) }
-    {
-        let Opened { first, mut links } = self;
-        links.push(link)?;
-        Ok(Expr::Chain(first, links))
-    }
-}
-
-/// A list of parts, by whether its last one is a chain.
-#[derive(Drop)]
-enum Parts {
-    /// The last part, taken apart, and those before it.
-    Open(Opened, Vec<Expr>),
-    /// No part, or parts the last of which is no chain.
-    Shut(Vec<Expr>),
-}
-
-/// Takes the last part apart if it is a chain, so that what is done with it nests no deeper.
-fn taken_apart(list: Vec<Expr>) -> Result<Parts, AllocError>
-    ensures { IfOk result (λ ps. AreParts ps list.items) }
+/// Adds a part.
+fn push_part(parts: &mut Vec<Expr>, part: Box<Expr>) -> Result<(), AllocError>
+    ensures { OnOk result (parts.new.items ≡ parts.old.items ++ part.value ∷ []) }
 {
-    let mut list = list;
-    match list.pop() {
-        Some(last) => match last {
-            Expr::Chain(first, links) => Ok(Parts::Open(Opened { first, links }, list)),
-            other => {
-                list.push(other)?;
-                Ok(Parts::Shut(list))
-            }
-        },
-        None => Ok(Parts::Shut(list)),
+    parts.push(Box::into_inner(part))?;
+    Ok(())
+}
+
+/// Whether the last of these parts is a chain.
+fn ends_in_chain(parts: &[Expr]) -> bool {
+    match parts.last() {
+        Some(last) => matches!(last, Expr::Chain(_, _)),
+        None => false,
+    }
+}
+
+/// Takes out the last part if it is a chain, so that what is done with it nests no deeper.
+fn last_chain(alloc: Global, parts: &mut Vec<Expr>) -> Result<Option<Box<Expr>>, AllocError>
+    ensures { IfOk result (λ last. parts.old.items ≡ parts.new.items ++ in_box last) }
+{
+    if !ends_in_chain(parts) {
+        return Ok(None);
+    }
+    match parts.pop() {
+        Some(last) => Ok(Some(Box::new(alloc, last)?)),
+        None => Ok(None),
     }
 }
 
 /// A constructor with all of its fields.
 #[tactic(auto, using(elm_canon::proofs::Views::strict))]
 fn built(
+    alloc: Global,
     place: Pos,
     union: Union,
     alternative: Alternative,
     fields: Vec<Expr>,
-) -> Result<Expr, AllocError>
-    ensures { IfOk result (λ e. expr_view e
+) -> Result<Box<Expr>, AllocError>
+    ensures { IfOk result (λ e. expr_view e.value
         ≡ Strict (Build place union alternative) (exprs_of (map expr_view fields.items))) }
 {
-    let op = Op::Build(place, union, alternative);
-    match taken_apart(fields)? {
-        Parts::Open(last, before) => last.then(Link::After(op, before)),
-        Parts::Shut(fields) => Ok(Expr::Strict(op, fields)),
+    let mut fields = fields;
+    match last_chain(alloc, &mut fields)? {
+        Some(last) => then(
+            alloc,
+            last,
+            Link::After(Op::Build(place, union, alternative), fields),
+        ),
+        None => Ok(Box::new(
+            alloc,
+            Expr::Strict(Op::Build(place, union, alternative), fields),
+        )?),
     }
 }
 
@@ -184,18 +159,39 @@ pub fn top_name(alloc: Global, place: Pos, home: Name, name: Name) -> Result<Exp
     Ok(Expr::Located(place, Box::new(alloc, expr)?))
 }
 
+/// A name of a module with these arguments, if there are any.
+fn named(
+    alloc: Global,
+    place: Pos,
+    home: Name,
+    name: Name,
+    arguments: Vec<Expr>,
+) -> Result<Box<Expr>, AllocError>
+    ensures { IfOk result (λ e. expr_view e.value
+        ≡ spec.given (spec.top_name place home name) (map expr_view arguments.items)) }
+{
+    let function = Box::new(alloc, top_name(alloc, place, home, name)?)?;
+    given(alloc, function, arguments)
+}
+
 /// A function with these arguments, if there are any. The error means that memory ran out.
 #[tactic(auto, using(elm_canon::proofs::Views::apply))]
-fn given(alloc: Global, function: Expr, arguments: Vec<Expr>) -> Result<Expr, AllocError>
-    ensures { IfOk result (λ e. expr_view e ≡ spec.given (expr_view function) (map expr_view arguments.items)) }
+fn given(alloc: Global, function: Box<Expr>, arguments: Vec<Expr>) -> Result<Box<Expr>, AllocError>
+    ensures { IfOk result (λ e. expr_view e.value
+        ≡ spec.given (expr_view function.value) (map expr_view arguments.items)) }
 {
-    match taken_apart(arguments)? {
-        Parts::Open(last, before) => last.then(Link::Given(function, before)),
-        Parts::Shut(arguments) => {
+    let mut arguments = arguments;
+    match last_chain(alloc, &mut arguments)? {
+        Some(last) => then(
+            alloc,
+            last,
+            Link::Given(Box::into_inner(function), arguments),
+        ),
+        None => {
             if arguments.len() == 0 {
                 Ok(function)
             } else {
-                Ok(Expr::Apply(Box::new(alloc, function)?, arguments))
+                Ok(Box::new(alloc, Expr::Apply(function, arguments))?)
             }
         }
     }

@@ -2,7 +2,7 @@
 //! that it nests no deeper than there are levels.
 
 ghost use Rattle.std.specs.Prelude.{◌≡◌, ◌∷◌, [], ◌&&◌, map, IfOk, OnOk};
-ghost use Rattle.elm_canon.specs.View.{expr_view, link_view, linked};
+ghost use Rattle.elm_canon.specs.View.{expr_view};
 ghost use Rattle.elm_tree.specs.View.{word_view};
 ghost use Rattle.elm_tree.specs.Turns.{tokens_view};
 ghost use Rattle.elm_tree.specs.Regroup.{may_stand_left, is_left};
@@ -11,7 +11,8 @@ ghost use Rattle.canon_calls.specs.Callees as spec;
 ghost use Rattle.canon_calls.specs.Calls.{callee_view};
 ghost use Rattle.canon_calls.specs.Chains.{waiting_view, operand_view, closed, waits_on, reached};
 
-use crate::callee::{Callee, Opened};
+use crate::callee::Callee;
+use crate::links::{chained, then};
 use crate::operators::{Between, core_function, effect_of};
 use canon_env::finding::place_at;
 use elm_base::position::Pos;
@@ -25,7 +26,7 @@ use std::alloc::{AllocError, Global};
 /// A callee to the left of the operator, which waits for its right part.
 #[derive(Drop)]
 struct Waiting {
-    callee: Callee,
+    callee: Box<Callee>,
     operator: Word,
 }
 
@@ -33,31 +34,44 @@ struct Waiting {
 #[derive(Drop)]
 pub struct Operand {
     pub operator: Word,
-    pub callee: Callee,
+    pub callee: Box<Callee>,
 }
 
-/// An operand as the first of a chain.
-fn opened(alloc: Global, operand: Callee) -> Result<Opened, AllocError>
-    ensures { IfOk result (λ o. linked (expr_view o.first.value) (map link_view o.links.items)
-        ≡ spec.finished (callee_view operand)) }
+/// What an operand means.
+fn meaning(alloc: Global, operand: Box<Callee>) -> Result<Box<Expr>, AllocError>
+    ensures { IfOk result (λ e. expr_view e.value ≡ spec.finished (callee_view operand.value)) }
 {
-    Opened::of(alloc, operand.finish(alloc)?)
+    Box::into_inner(operand).finish(alloc)
+}
+
+/// An expression without arguments.
+fn plain(alloc: Global, expr: Box<Expr>) -> Result<Box<Callee>, AllocError>
+    ensures { IfOk result (λ c. callee_view c.value ≡ spec.plain (expr_view expr.value)) }
+{
+    Ok(Box::new(alloc, Callee::plain(alloc, expr))?)
 }
 
 /// A call with one argument more.
-fn with_argument(alloc: Global, function: Callee, argument: Callee) -> Result<Callee, AllocError>
-    ensures { IfOk result (λ c. callee_view c
-        ≡ spec.with_arguments (callee_view function) (spec.finished (callee_view argument) ∷ [])) }
+fn with_argument(
+    alloc: Global,
+    function: Box<Callee>,
+    argument: Box<Callee>,
+) -> Result<Box<Callee>, AllocError>
+    ensures { IfOk result (λ c. callee_view c.value
+        ≡ spec.with_arguments (callee_view function.value) (spec.finished (callee_view argument.value) ∷ [])) }
 {
-    let argument = opened(alloc, argument)?;
-    function.push(argument.close())
+    let argument = meaning(alloc, argument)?;
+    let argument = chained(alloc, argument)?;
+    let mut function = function;
+    function.push(argument)?;
+    Ok(function)
 }
 
 /// One expression as a list.
-fn one(alloc: Global, expr: Expr) -> Result<Vec<Expr>, AllocError>
-    ensures { IfOk result (λ v. v.items ≡ expr ∷ []) }
+fn one(alloc: Global, expr: Box<Expr>) -> Result<Vec<Expr>, AllocError>
+    ensures { IfOk result (λ v. v.items ≡ expr.value ∷ []) }
 {
-    Ok(vec![in alloc; expr]?)
+    Ok(vec![in alloc; Box::into_inner(expr)]?)
 }
 
 /// Whether a chain of the operator goes on to its right.
@@ -65,27 +79,61 @@ fn goes_right(operator: Operator) -> bool {
     matches!(operator, Operator::Append | Operator::Cons)
 }
 
+/// What computes with both operands, the right one as the first of a chain.
+#[tactic(auto, using(elm_canon::proofs::Views::part_after))]
+fn computed_right(
+    alloc: Global,
+    place: Pos,
+    operator: Operator,
+    left: Box<Expr>,
+    right: Box<Expr>,
+) -> Result<Box<Expr>, AllocError>
+    ensures { IfOk result (λ e. expr_view e.value
+        ≡ spec.computed place operator (expr_view left.value) (expr_view right.value)) }
+{
+    let left = one(alloc, left)?;
+    then(alloc, right, Link::After(Op::Binary(place, operator), left))
+}
+
+/// The same, with the left one as the first.
+#[tactic(auto, using(elm_canon::proofs::Views::part_before))]
+fn computed_left(
+    alloc: Global,
+    place: Pos,
+    operator: Operator,
+    left: Box<Expr>,
+    right: Box<Expr>,
+) -> Result<Box<Expr>, AllocError>
+    ensures { IfOk result (λ e. expr_view e.value
+        ≡ spec.computed place operator (expr_view left.value) (expr_view right.value)) }
+{
+    let right = Box::into_inner(right);
+    then(
+        alloc,
+        left,
+        Link::Before(Op::Binary(place, operator), right),
+    )
+}
+
 /// What computes with both operands.
-#[tactic(auto, using(elm_canon::proofs::Views::part_after, elm_canon::proofs::Views::part_before))]
 fn computed(
     alloc: Global,
     place: Pos,
     operator: Operator,
-    left: Callee,
-    right: Callee,
-) -> Result<Callee, AllocError>
-    ensures { IfOk result (λ c. callee_view c ≡ spec.plain (spec.computed place operator
-        (spec.finished (callee_view left)) (spec.finished (callee_view right)))) }
+    left: Box<Callee>,
+    right: Box<Callee>,
+) -> Result<Box<Callee>, AllocError>
+    ensures { IfOk result (λ c. callee_view c.value ≡ spec.plain (spec.computed place operator
+        (spec.finished (callee_view left.value)) (spec.finished (callee_view right.value)))) }
 {
-    let op = Op::Binary(place, operator);
+    let left = meaning(alloc, left)?;
+    let right = meaning(alloc, right)?;
     let expr = if goes_right(operator) {
-        let left = one(alloc, left.finish(alloc)?)?;
-        opened(alloc, right)?.then(Link::After(op, left))?
+        computed_right(alloc, place, operator, left, right)?
     } else {
-        let right = right.finish(alloc)?;
-        opened(alloc, left)?.then(Link::Before(op, right))?
+        computed_left(alloc, place, operator, left, right)?
     };
-    Ok(Callee::plain(alloc, expr))
+    plain(alloc, expr)
 }
 
 /// What may pass over its right operand.
@@ -94,35 +142,55 @@ fn decided(
     alloc: Global,
     place: Pos,
     connective: Connective,
-    left: Callee,
-    right: Callee,
-) -> Result<Callee, AllocError>
-    ensures { IfOk result (λ c. callee_view c ≡ spec.plain (spec.decided place connective
-        (spec.finished (callee_view left)) (spec.finished (callee_view right)))) }
+    left: Box<Callee>,
+    right: Box<Callee>,
+) -> Result<Box<Callee>, AllocError>
+    ensures { IfOk result (λ c. callee_view c.value ≡ spec.plain (spec.decided place connective
+        (spec.finished (callee_view left.value)) (spec.finished (callee_view right.value)))) }
 {
-    let left = left.finish(alloc)?;
-    let expr = opened(alloc, right)?.then(Link::Decided(place, connective, left))?;
-    Ok(Callee::plain(alloc, expr))
+    let left = meaning(alloc, left)?;
+    let right = meaning(alloc, right)?;
+    let left = Box::into_inner(left);
+    let expr = then(alloc, right, Link::Decided(place, connective, left))?;
+    plain(alloc, expr)
 }
 
 /// What calls a function with both operands, the left one as the first of a chain.
 #[tactic(auto, using(elm_canon::proofs::Views::composed))]
-fn composed(alloc: Global, function: Expr, left: Callee, right: Callee) -> Result<Expr, AllocError>
-    ensures { IfOk result (λ e. expr_view e ≡ spec.called (expr_view function)
-        (spec.finished (callee_view left)) (spec.finished (callee_view right))) }
+fn composed(
+    alloc: Global,
+    function: Box<Expr>,
+    left: Box<Expr>,
+    right: Box<Expr>,
+) -> Result<Box<Expr>, AllocError>
+    ensures { IfOk result (λ e. expr_view e.value
+        ≡ spec.called (expr_view function.value) (expr_view left.value) (expr_view right.value)) }
 {
-    let right = right.finish(alloc)?;
-    opened(alloc, left)?.then(Link::Composed(function, right))
+    let function = Box::into_inner(function);
+    let right = Box::into_inner(right);
+    then(alloc, left, Link::Composed(function, right))
 }
 
 /// The same, with the right one as the first.
 #[tactic(auto, using(elm_canon::proofs::Views::given))]
-fn applied(alloc: Global, function: Expr, left: Callee, right: Callee) -> Result<Expr, AllocError>
-    ensures { IfOk result (λ e. expr_view e ≡ spec.called (expr_view function)
-        (spec.finished (callee_view left)) (spec.finished (callee_view right))) }
+fn applied(
+    alloc: Global,
+    function: Box<Expr>,
+    left: Box<Expr>,
+    right: Box<Expr>,
+) -> Result<Box<Expr>, AllocError>
+    ensures { IfOk result (λ e. expr_view e.value
+        ≡ spec.called (expr_view function.value) (expr_view left.value) (expr_view right.value)) }
 {
-    let left = one(alloc, left.finish(alloc)?)?;
-    opened(alloc, right)?.then(Link::Given(function, left))
+    let left = one(alloc, left)?;
+    then(alloc, right, Link::Given(Box::into_inner(function), left))
+}
+
+/// The core function of an operator, in a box.
+fn core_box(alloc: Global, tokens: &[Token<'_>], operator: Word) -> Result<Box<Expr>, AllocError>
+    ensures { IfOk result (λ e. expr_view e.value ≡ function_of (word_view (tokens_view tokens.now) operator)) }
+{
+    Ok(Box::new(alloc, core_function(alloc, tokens, operator)?)?)
 }
 
 /// What calls the function of an operator with both operands.
@@ -130,19 +198,21 @@ fn called(
     alloc: Global,
     tokens: &[Token<'_>],
     operator: Word,
-    left: Callee,
-    right: Callee,
-) -> Result<Callee, AllocError>
-    ensures { IfOk result (λ c. callee_view c
+    left: Box<Callee>,
+    right: Box<Callee>,
+) -> Result<Box<Callee>, AllocError>
+    ensures { IfOk result (λ c. callee_view c.value
         ≡ spec.plain (spec.called (function_of (word_view (tokens_view tokens.now) operator))
-        (spec.finished (callee_view left)) (spec.finished (callee_view right)))) }
+        (spec.finished (callee_view left.value)) (spec.finished (callee_view right.value)))) }
 {
-    let function = core_function(alloc, tokens, operator)?;
+    let function = core_box(alloc, tokens, operator)?;
+    let left = meaning(alloc, left)?;
+    let right = meaning(alloc, right)?;
     let expr = match strength_at(tokens, operator).side {
         Side::ToLeft => composed(alloc, function, left, right)?,
         _ => applied(alloc, function, left, right)?,
     };
-    Ok(Callee::plain(alloc, expr))
+    plain(alloc, expr)
 }
 
 /// Two operands, joined by an operator.
@@ -150,11 +220,11 @@ fn joined(
     alloc: Global,
     tokens: &[Token<'_>],
     operator: Word,
-    left: Callee,
-    right: Callee,
-) -> Result<Callee, AllocError>
-    ensures { IfOk result (λ c. callee_view c
-        ≡ spec.joined (word_view (tokens_view tokens.now) operator) (callee_view left) (callee_view right)) }
+    left: Box<Callee>,
+    right: Box<Callee>,
+) -> Result<Box<Callee>, AllocError>
+    ensures { IfOk result (λ c. callee_view c.value ≡ spec.joined (word_view (tokens_view tokens.now) operator)
+        (callee_view left.value) (callee_view right.value)) }
 {
     let place = place_at(tokens, operator);
     match effect_of(text_at(tokens, operator)) {
@@ -195,14 +265,14 @@ fn join_before(
     alloc: Global,
     tokens: &[Token<'_>],
     waiting: &mut Vec<Waiting>,
-    mut callee: Callee,
+    mut callee: Box<Callee>,
     operator: Word,
-) -> Result<Callee, AllocError>
+) -> Result<Box<Callee>, AllocError>
     ensures waiting { OnOk result (waiting_view (tokens_view tokens.now) waiting.new.items
-        ≡ waits_on (waiting_view (tokens_view tokens.now) waiting.old.items) (callee_view callee)
+        ≡ waits_on (waiting_view (tokens_view tokens.now) waiting.old.items) (callee_view callee.value)
         (word_view (tokens_view tokens.now) operator)) }
-    ensures callee { IfOk result (λ c. callee_view c
-        ≡ reached (waiting_view (tokens_view tokens.now) waiting.old.items) (callee_view callee)
+    ensures callee { IfOk result (λ c. callee_view c.value
+        ≡ reached (waiting_view (tokens_view tokens.now) waiting.old.items) (callee_view callee.value)
         (word_view (tokens_view tokens.now) operator)) }
 {
     while let Some(last) = waiting.pop() {
@@ -220,10 +290,10 @@ fn join_all(
     alloc: Global,
     tokens: &[Token<'_>],
     mut waiting: Vec<Waiting>,
-    mut callee: Callee,
-) -> Result<Callee, AllocError>
-    ensures { IfOk result (λ c. callee_view c
-        ≡ closed (waiting_view (tokens_view tokens.now) waiting.items) (callee_view callee)) }
+    mut callee: Box<Callee>,
+) -> Result<Box<Callee>, AllocError>
+    ensures { IfOk result (λ c. callee_view c.value
+        ≡ closed (waiting_view (tokens_view tokens.now) waiting.items) (callee_view callee.value)) }
 {
     while let Some(last) = waiting.pop() {
         callee = joined(alloc, tokens, last.operator, last.callee, callee)?;
@@ -237,11 +307,11 @@ fn join_all(
 pub fn chain(
     alloc: Global,
     tokens: &[Token<'_>],
-    first: Callee,
+    first: Box<Callee>,
     operands: Vec<Operand>,
 ) -> Result<Callee, AllocError>
     ensures { IfOk result (λ c. callee_view c
-        ≡ spec.chain_of (callee_view first) (map (operand_view (tokens_view tokens.now)) operands.items)) }
+        ≡ spec.chain_of (callee_view first.value) (map (operand_view (tokens_view tokens.now)) operands.items)) }
 {
     let mut waiting = Vec::new(alloc);
     let mut callee = first;
@@ -253,5 +323,6 @@ pub fn chain(
         })?;
         callee = operand.callee;
     }
-    join_all(alloc, tokens, waiting, callee)
+    let whole = join_all(alloc, tokens, waiting, callee)?;
+    Ok(Box::into_inner(whole))
 }

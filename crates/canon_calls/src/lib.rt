@@ -4,4 +4,5 @@
 pub mod callee;
 pub mod chain;
 pub mod laws;
+mod links;
 pub mod operators;

@@ -11,7 +11,7 @@ ghost use Rattle.elm_canon.specs.declared.reference.Ref.TheVariants.{Local};
 ghost use Rattle.elm_canon.specs.View.{expr_view, branch_view, pattern_view, patterns_view, annotation_view};
 ghost use Rattle.canon_env.specs.Imports.{name_of};
 ghost use Rattle.canon_calls.specs.Calls.{callee_view};
-ghost use Rattle.canon_calls.specs.Callees.{finished, with_arguments, chain_of};
+ghost use Rattle.canon_calls.specs.Callees.{finished, with_arguments};
 ghost use Rattle.canon_calls.specs.Chains.{operand_view};
 ghost use Rattle.canon_blocks.specs.Binding.{is_function};
 ghost use Rattle.canon_blocks.specs.Blocks as blocks;
@@ -21,7 +21,7 @@ ghost use Rattle.canon_blocks.specs.Kept.{made_view};
 use canon_blocks::made::Made;
 use canon_blocks::titles::made_of;
 use canon_calls::callee::Callee;
-use canon_calls::chain::{Operand, chain};
+use canon_calls::chain::Operand;
 use elm_canon::tree::{Annotation, Branch, Expr, Pattern};
 use elm_lexer::token::Token;
 use elm_tree::tree;
@@ -39,7 +39,7 @@ pub(crate) fn boxed(alloc: Global, callee: Callee) -> Result<Box<Callee>, AllocE
 pub(crate) fn finished(alloc: Global, callee: Callee) -> Result<Box<Expr>, AllocError>
     ensures { IfOk result (λ e. expr_view e.value ≡ finished (callee_view callee)) }
 {
-    Ok(Box::new(alloc, callee.finish(alloc)?)?)
+    callee.finish(alloc)
 }
 
 /// Adds what a call means once it has all of its arguments.
@@ -51,7 +51,8 @@ pub(crate) fn push_finished(
     ensures { OnOk result (map expr_view meanings.new.items
         ≡ map expr_view meanings.old.items ++ finished (callee_view callee) ∷ []) }
 {
-    meanings.push(callee.finish(alloc)?)?;
+    let meaning = callee.finish(alloc)?;
+    meanings.push(Box::into_inner(meaning))?;
     Ok(())
 }
 
@@ -64,21 +65,9 @@ pub(crate) fn applied(function: Box<Callee>, arguments: Vec<Expr>) -> Result<Cal
     function.extend(arguments)
 }
 
-/// A chain, by its first operand and the others.
-pub(crate) fn chained(
-    alloc: Global,
-    tokens: &[Token<'_>],
-    first: Box<Callee>,
-    operands: Vec<Operand>,
-) -> Result<Callee, AllocError>
-    ensures { IfOk result (λ c. callee_view c ≡ chain_of (callee_view first.value)
-        (map (operand_view (tokens_view tokens.now)) operands.items)) }
-{
-    chain(alloc, tokens, Box::into_inner(first), operands)
-}
-
 /// Adds an operand.
 pub(crate) fn push_operand(
+    alloc: Global,
     operands: &mut Vec<Operand>,
     operator: Word,
     callee: Callee,
@@ -86,6 +75,7 @@ pub(crate) fn push_operand(
     ensures { OnOk result ((tokens : List lexed.Token) → map (operand_view tokens) operands.new.items
         ≡ map (operand_view tokens) operands.old.items ++ (word_view tokens operator, callee_view callee) ∷ []) }
 {
+    let callee = Box::new(alloc, callee)?;
     operands.push(Operand { operator, callee })?;
     Ok(())
 }

@@ -39,6 +39,21 @@ pub(crate) struct Gathered {
     pub(crate) before: Option<Annotation>,
 }
 
+/// The definitions of a block at its end.
+#[derive(Drop)]
+struct Ended {
+    uses: Vec<Vec<u32>>,
+    made: Vec<Made>,
+}
+
+/// Adds what a definition means.
+fn push_made(all: &mut Vec<Made>, made: Made) -> Result<(), AllocError>
+    ensures { OnOk result (all.new.items ≡ all.old.items ++ made ∷ []) }
+{
+    all.push(made)?;
+    Ok(())
+}
+
 impl Gathered {
     /// None of these definitions yet.
     pub(crate) fn new(
@@ -80,9 +95,20 @@ impl Gathered {
         ensures binders { OnOk result (self.new.binders ≡ self.old.binders) }
         ensures before { OnOk result (self.new.before ≡ self.old.before) }
     {
+        push_made(&mut self.made, made)?;
         self.uses.push(self.binders.used_since(alloc, log, start)?)?;
-        self.made.push(made)?;
         Ok(())
+    }
+
+    /// No definition follows.
+    fn end(self) -> Ended
+        ensures uses { result.uses.items ≡ self.uses.items }
+        ensures made { result.made.items ≡ self.made.items }
+    {
+        Ended {
+            uses: self.uses,
+            made: self.made,
+        }
     }
 
     /// The groups of the definitions, which are all of those of the block. Those that reach themselves are noted.
@@ -101,8 +127,9 @@ impl Gathered {
         ensures log { OnOk result ((w : naming.World) → Grows w log.old log.new (reaching_sites (plain self.uses.items)
             (defined_in (tree.definitions_of (map (definition_view (tokens_view tokens.now)) definitions.now))))) }
     {
-        let order = Order::of(alloc, &self.uses)?;
+        let Ended { uses, made } = self.end();
+        let order = Order::of(alloc, &uses)?;
         note_reaching(alloc, tokens, log, &order, definitions)?;
-        groups_of(alloc, &order, self.made)
+        groups_of(alloc, &order, made)
     }
 }

@@ -25,14 +25,14 @@ use crate::binding::{
     BoundPattern, Parameters, annotate, bind_parameters, bind_pattern, boxed_pattern, enter_block,
 };
 use crate::boxes::{
-    applied, boxed, chained, defined_by, finished, forget, parts_of, push_branch, push_finished,
+    applied, boxed, defined_by, finished, forget, parts_of, push_branch, push_finished,
     push_operand,
 };
 use crate::gathering::Gathered;
 use crate::records::{base_values, record_of};
 use canon_blocks::made::Made;
 use canon_calls::callee::Callee;
-use canon_calls::chain::Operand;
+use canon_calls::chain::{Operand, chain};
 use canon_env::env::World;
 use canon_leaves::fields::accessed;
 use canon_leaves::forms::{case_of, conditional, lambda, let_in, negated, strict_at};
@@ -84,7 +84,7 @@ pub fn callee(
             let first = callee(alloc, tokens, world, scope, log, first)?;
             let first = boxed(alloc, first)?;
             let operands = operands(alloc, tokens, world, scope, log, parts)?;
-            chained(alloc, tokens, first, operands)
+            chain(alloc, tokens, first, operands)
         }
         tree::Expr::List(first, items) => {
             let items = meant_each(alloc, tokens, world, scope, log, items)?;
@@ -107,7 +107,7 @@ pub fn callee(
             let condition = meant(alloc, tokens, world, scope, log, condition)?;
             let yes = meant(alloc, tokens, world, scope, log, yes)?;
             let no = meant(alloc, tokens, world, scope, log, no)?;
-            Ok(conditional(alloc, condition, yes, no))
+            conditional(alloc, condition, yes, no)
         }
         tree::Expr::Case(first, subject, branches) => {
             let subject = meant(alloc, tokens, world, scope, log, subject)?;
@@ -119,7 +119,7 @@ pub fn callee(
             let groups = defined(alloc, tokens, world, scope, log, definitions)?;
             let body = meant(alloc, tokens, world, scope, log, body)?;
             scope.leave(entered)?;
-            Ok(let_in(alloc, groups, body))
+            let_in(alloc, groups, body)
         }
         tree::Expr::Lambda(first, parameters, body) => {
             let Parameters { patterns, words } = bind_parameters(
@@ -261,7 +261,7 @@ fn operands(
     for part in parts {
         note_operator(alloc, tokens, log, part.word)?;
         let callee = callee(alloc, tokens, world, scope, log, &part.value)?;
-        push_operand(&mut operands, part.word, callee)?;
+        push_operand(alloc, &mut operands, part.word, callee)?;
     }
     Ok(operands)
 }

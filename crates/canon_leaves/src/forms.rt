@@ -80,13 +80,18 @@ pub fn lambda(
     at(alloc, tokens, first, Expr::Lambda(parameters, body))
 }
 
-/// `if a then b else c`, by what the three mean.
+/// `if a then b else c`, by what the three mean. The error means that memory ran out.
 #[tactic(auto, using(elm_canon::proofs::Views::conditional))]
-pub fn conditional(alloc: Global, condition: Box<Expr>, yes: Box<Expr>, no: Box<Expr>) -> Callee
-    ensures { callee_view result
-        ≡ plain (canon.If (expr_view condition.value) (expr_view yes.value) (expr_view no.value)) }
+pub fn conditional(
+    alloc: Global,
+    condition: Box<Expr>,
+    yes: Box<Expr>,
+    no: Box<Expr>,
+) -> Result<Callee, AllocError>
+    ensures { IfOk result (λ c. callee_view c
+        ≡ plain (canon.If (expr_view condition.value) (expr_view yes.value) (expr_view no.value))) }
 {
-    Callee::plain(alloc, Expr::If(condition, yes, no))
+    Callee::of(alloc, Expr::If(condition, yes, no))
 }
 
 /// `case e of`, which begins at the word `first`, by what `e` and the branches mean. The word is of the text of the
@@ -105,11 +110,11 @@ pub fn case_of(
     at(alloc, tokens, first, Expr::Case(subject, branches))
 }
 
-/// `let`, by its groups and what its body means.
+/// `let`, by its groups and what its body means. The error means that memory ran out.
 #[tactic(auto, using(elm_canon::proofs::Views::let_in))]
-pub fn let_in(alloc: Global, groups: Vec<Group>, body: Box<Expr>) -> Callee
-    ensures { callee_view result
-        ≡ plain (canon.Let (canon.groups_of (map group_view groups.items)) (expr_view body.value)) }
+pub fn let_in(alloc: Global, groups: Vec<Group>, body: Box<Expr>) -> Result<Callee, AllocError>
+    ensures { IfOk result (λ c. callee_view c
+        ≡ plain (canon.Let (canon.groups_of (map group_view groups.items)) (expr_view body.value))) }
 {
-    Callee::plain(alloc, Expr::Let(groups, body))
+    Callee::of(alloc, Expr::Let(groups, body))
 }

@@ -88,14 +88,15 @@ pub fn one_word(
         Kind::QualifiedUpper => maker_at(alloc, tokens, world, log, word),
         Kind::Operator => {
             note_operator(alloc, tokens, log, word)?;
-            Ok(Callee::plain(alloc, core_function(alloc, tokens, word)?))
+            let function = Box::new(alloc, core_function(alloc, tokens, word)?)?;
+            Ok(Callee::plain(alloc, function))
         }
         Kind::Field => {
             let name = field_name(alloc, tokens, word)?;
             Callee::at(alloc, place_at(tokens, word), Expr::Accessor(name))
         }
         _ => {
-            let value = value_at(alloc, tokens, world, scope, log, word)?;
+            let value = Box::new(alloc, value_at(alloc, tokens, world, scope, log, word)?)?;
             Ok(Callee::plain(alloc, value))
         }
     }

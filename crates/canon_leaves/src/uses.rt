@@ -14,7 +14,7 @@ ghost use Rattle.canon_sites.specs.Sites.{ValueUse, MakerUse, OperatorUse, value
 ghost use Rattle.canon_scope.specs.Scope.{locals_of};
 ghost use Rattle.canon_scope.specs.Logs.{Grows};
 ghost use Rattle.canon_calls.specs.Calls.{callee_view};
-ghost use Rattle.canon_calls.specs.Callees.{blank, alone, maker_head, value_of};
+ghost use Rattle.canon_calls.specs.Callees.{blank, alone, plain, maker_head, value_of};
 
 use canon_calls::callee::{Callee, Head, top_name};
 use canon_env::env::World;
@@ -44,6 +44,13 @@ fn blank() -> Expr
     ensures { expr_view result ≡ blank }
 {
     Expr::Literal(Literal::Int(0))
+}
+
+/// The same, as what is called.
+fn nothing(alloc: Global) -> Result<Callee, AllocError>
+    ensures { IfOk result (λ c. callee_view c ≡ plain blank) }
+{
+    Callee::of(alloc, blank())
 }
 
 /// The value that the name means that the word `word` is, where it stands: a local name of `scope`, or else a name of
@@ -89,7 +96,10 @@ fn maker_of(
             head: Head::Maker(place, home, name, union.clone()?, alternative.clone()?),
             arguments: Vec::new(alloc),
         }),
-        MakerMeaning::OfRecord(_) => Ok(Callee::plain(alloc, top_name(alloc, place, home, name)?)),
+        MakerMeaning::OfRecord(_) => {
+            let function = Box::new(alloc, top_name(alloc, place, home, name)?)?;
+            Ok(Callee::plain(alloc, function))
+        }
     }
 }
 
@@ -113,12 +123,14 @@ pub fn maker_at(
     match world.maker(&long.qualifier, &long.name) {
         Some(Entry::One(meant)) => maker_of(alloc, place_at(tokens, word), long.name, meant),
         Some(Entry::Several) => {
+            let callee = nothing(alloc)?;
             log.note_name(alloc, tokens, Code::Ambiguous, word)?;
-            Ok(Callee::plain(alloc, blank()))
+            Ok(callee)
         }
         None => {
+            let callee = nothing(alloc)?;
             log.note_name(alloc, tokens, Code::UnknownConstructor, word)?;
-            Ok(Callee::plain(alloc, blank()))
+            Ok(callee)
         }
     }
 }

@@ -1,2 +1,3 @@
 pub mod Resolve
 pub mod Kept
+pub mod Offers

@@ -19,11 +19,11 @@ use Rattle.canon_sites.specs.Types.{field_words}
 use Rattle.canon_declared.specs.Unions.{alternatives_of}
 use Rattle.canon_names.specs.Names.{names_in}
 use Rattle.canon_names.specs.Faults.{name_faults}
-use Rattle.canon_ports.specs.Ports.{port_of}
+use Rattle.canon_values.specs.Ports.{port_of}
 use Rattle.declared_types.specs.Types.{module_world, AreDeclared, declared_faults}
 use Rattle.canon_values.specs.Items.{value_groups}
 use Rattle.canon_values.specs.Faults.{value_faults}
-use Rattle.canon_shown.specs.Offers.{exposed_by, shown_by}
+use Rattle.canon_module.specs.Offers.{exposed_by, shown_by}
 
 -- what a module is resolved against: its name by its path, the types that it has without a text, its imports, those
 -- that each module has among them, and those that are written; each beside what its module shows

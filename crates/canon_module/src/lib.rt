@@ -4,3 +4,4 @@
 mod makers;
 pub mod module;
 mod ports;
+mod shown;

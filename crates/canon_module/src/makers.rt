@@ -4,7 +4,7 @@ ghost use Rattle.std.specs.Prelude.{◌≡◌, ◌++◌, ◌∷◌, [], map, fla
 ghost use Rattle.elm_tree.specs.View as tree_view;
 ghost use Rattle.elm_tree.specs.Turns.{tokens_view};
 ghost use Rattle.elm_canon.specs.Tree as canon;
-ghost use Rattle.elm_canon.specs.View.{declaration_view};
+ghost use Rattle.elm_canon.specs.View.{declaration_view, known_view};
 ghost use Rattle.elm_canon.specs.declared.reference.Ref.TheVariants.{Top};
 ghost use Rattle.canon_env.specs.Imports.{name_of};
 ghost use Rattle.canon_declared.specs.Unions.{alternatives_of};
@@ -21,6 +21,19 @@ use elm_names::name::Name;
 use elm_tree::tree::{Constructor, Declaration, FieldType, TypeTree, Word};
 use std::alloc::{AllocError, Global};
 
+/// Adds a function without a body.
+fn push_given(
+    makers: &mut Vec<tree::Declaration>,
+    name: Ref,
+    known: Known,
+) -> Result<(), AllocError>
+    ensures { OnOk result (map declaration_view makers.new.items
+        ≡ map declaration_view makers.old.items ++ canon.Given name (known_view known) ∷ []) }
+{
+    makers.push(tree::Declaration::Given(name, known))?;
+    Ok(())
+}
+
 /// Adds constructors of a union.
 fn push_alternatives(
     home: &Name,
@@ -32,7 +45,7 @@ fn push_alternatives(
 {
     for alternative in alternatives {
         let name = Ref::Top(home.clone()?, alternative.name.clone()?);
-        makers.push(tree::Declaration::Given(name, Known::Maker(alternative.clone()?)))?;
+        push_given(makers, name, Known::Maker(alternative.clone()?))?;
     }
     Ok(())
 }
@@ -88,8 +101,7 @@ fn push_record(
 {
     let name = Ref::Top(home.clone()?, word_name(alloc, tokens, word)?);
     let names = field_names(alloc, tokens, fields)?;
-    makers.push(tree::Declaration::Given(name, Known::RecordMaker(names)))?;
-    Ok(())
+    push_given(makers, name, Known::RecordMaker(names))
 }
 
 /// Adds the constructor of the alias that the word `word` names, if it is written as a closed record.

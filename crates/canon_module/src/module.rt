@@ -23,6 +23,7 @@ ghost use Rattle.canon_module.specs.Kept.{setting_view};
 
 use crate::makers::makers;
 use crate::ports::ports;
+use crate::shown::{exposed_by, shown_by};
 use canon_declared::constructors::names_of;
 use canon_env::env::{Env, Known, World};
 use canon_env::exposing::{Written, import_faults};
@@ -31,7 +32,6 @@ use canon_env::shown::Shown;
 use canon_names::faults::push_name_faults;
 use canon_names::names::Names;
 use canon_scope::log::Log;
-use canon_shown::shown::{exposed_by, shown_by};
 use canon_sites::order::in_order;
 use canon_values::values::values;
 use declared_types::declaring::{Declared, declared_types};

@@ -1,6 +1,6 @@
 //! The ports that a module declares.
 
-ghost use Rattle.std.specs.Prelude.{◌≡◌, ◌++◌, map, flat_map, IfOk, OnOk};
+ghost use Rattle.std.specs.Prelude.{◌≡◌, ◌++◌, ◌∷◌, [], map, flat_map, IfOk, OnOk};
 ghost use Rattle.elm_tree.specs.View as tree_view;
 ghost use Rattle.elm_tree.specs.Turns.{tokens_view};
 ghost use Rattle.elm_canon.specs.View.{port_declaration_view};
@@ -9,11 +9,19 @@ ghost use Rattle.canon_sites.specs.Naming.{IsWorld};
 ghost use Rattle.canon_module.specs.Resolve.{ports_in};
 
 use canon_env::env::World;
-use canon_ports::port::resolve;
+use canon_values::port::{Port, resolve};
 use elm_canon::tree::PortDeclaration;
 use elm_lexer::token::Token;
 use elm_tree::tree::Declaration;
 use std::alloc::{AllocError, Global};
+
+/// Adds what a port declares.
+fn push_declaration(ports: &mut Vec<PortDeclaration>, port: Port) -> Result<(), AllocError>
+    ensures { OnOk result (ports.new.items ≡ ports.old.items ++ port.declaration ∷ []) }
+{
+    ports.push(port.declaration)?;
+    Ok(())
+}
 
 /// Adds the port that a declaration is, if it is one.
 fn push_port(
@@ -32,8 +40,7 @@ fn push_port(
         Declaration::Port(name, written) => {
             let mut known = Vec::new(alloc);
             let port = resolve(alloc, tokens, world, *name, written, &mut known)?;
-            ports.push(port.declaration)?;
-            Ok(())
+            push_declaration(ports, port)
         }
         Declaration::Union(_, _, _) => Ok(()),
         Declaration::Alias(_, _, _) => Ok(()),

@@ -8,7 +8,7 @@ use Rattle.canon_sites.specs.Sites.{Defined, faults_at}
 use Rattle.canon_blocks.specs.Binding.{defined_by}
 use Rattle.canon_blocks.specs.Blocks.{reaching_sites}
 use Rattle.canon_leaves.specs.Exprs.{definition_sites}
-use Rattle.canon_ports.specs.Ports.{port_faults}
+use Rattle.canon_values.specs.Ports.{port_faults}
 use Rattle.canon_values.specs.Items.{top_used}
 
 -- what stands in one declaration. Of a type, nothing: its faults are told apart

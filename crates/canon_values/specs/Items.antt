@@ -15,7 +15,7 @@ use Rattle.canon_blocks.specs.Binding.{is_function}
 use Rattle.canon_blocks.specs.Blocks.{Made, NoMade, MadeFunction, MadeConstant, MadeParts, made_of, title_of, group_of}
 use Rattle.binding_groups.specs.InOrder.{ordered_groups}
 use Rattle.canon_leaves.specs.Exprs.{annotation_of, meant}
-use Rattle.canon_ports.specs.Ports.{port_known}
+use Rattle.canon_values.specs.Ports.{port_known}
 use Rattle.canon_uses.specs.Uses.{expr_uses}
 use Rattle.top_uses.specs.TopUses.{value_names_each, used_numbers}
 

@@ -3,6 +3,7 @@
 
 pub mod groups;
 pub mod item;
+pub mod port;
 pub mod reaching;
 pub mod uses;
 pub mod values;

@@ -14,6 +14,8 @@ ghost use Rattle.canon_sites.specs.Locals.{no_locals};
 ghost use Rattle.canon_sites.specs.Sites.{faults_at};
 ghost use Rattle.canon_scope.specs.Logs.{Grows};
 ghost use Rattle.canon_pattern.specs.Literals.{AreLiterals};
+ghost use Rattle.canon_blocks.specs.Binding.{is_function};
+ghost use Rattle.canon_blocks.specs.Blocks.{made_of, title_of};
 ghost use Rattle.canon_blocks.specs.Kept.{made_view};
 ghost use Rattle.canon_leaves.specs.Exprs.{annotation_of, definition_sites};
 ghost use Rattle.canon_values.specs.Items as spec;
@@ -21,6 +23,7 @@ ghost use Rattle.canon_values.specs.Faults.{declaration_faults};
 ghost use Rattle.canon_values.specs.Kept.{item_view};
 
 use crate::item::Item;
+use crate::port;
 use canon_annotation::annotation::annotation;
 use canon_blocks::made::Made;
 use canon_blocks::titles::made_named;
@@ -29,12 +32,11 @@ use canon_env::import::word_name;
 use canon_expr::walk::scoped;
 use canon_pattern::pattern::{pattern, patterns};
 use canon_pattern::words::words_of_all;
-use canon_ports::port;
 use canon_scope::bindings::note_bindings;
 use canon_scope::log::Log;
 use canon_scope::scope::Scope;
 use elm_canon::reference::Ref;
-use elm_canon::tree::Annotation;
+use elm_canon::tree::{Annotation, Expr, Pattern};
 use elm_lexer::token::Token;
 use elm_names::name::Name;
 use elm_tree::tree;
@@ -48,7 +50,40 @@ fn top_name(alloc: Global, tokens: &[Token<'_>], home: &Name, word: Word) -> Res
     Ok(Ref::Top(home.clone()?, word_name(alloc, tokens, word)?))
 }
 
-/// What a definition by a name means.
+/// What a definition by a name means, by what its parameters and its body mean, with the annotation that stands before
+/// it. None stands before the next declaration.
+fn made_by(
+    tokens: &[Token<'_>],
+    title: Ref,
+    name: Word,
+    before: &mut Option<Annotation>,
+    written: &[tree::Pattern],
+    parameters: Vec<Pattern>,
+    body: &tree::Expr,
+    value: Box<Expr>,
+) -> Made
+    ensures meaning { made_view result ≡ made_of
+        (is_function (tree_view.patterns_view (tokens_view tokens.now) written.now)
+        (tree_view.expr_view (tokens_view tokens.now) body.now))
+        (title_of title (word_view (tokens_view tokens.now) name).place (option_map annotation_view before.old))
+        (patterns_view parameters.items) (expr_view value.value) }
+    ensures before { before.new ≡ None }
+{
+    let value = Box::into_inner(value);
+    made_named(
+        tokens,
+        title,
+        name,
+        before.take(),
+        written,
+        parameters,
+        body,
+        value,
+    )
+}
+
+/// What a definition by a name means, with the annotation that stands before it. None stands before the next
+/// declaration.
 fn named(
     alloc: Global,
     tokens: &[Token<'_>],
@@ -58,17 +93,18 @@ fn named(
     name: Word,
     parameters: &[tree::Pattern],
     body: &tree::Expr,
-    before: Option<Annotation>,
+    before: &mut Option<Annotation>,
 ) -> Result<Made, AllocError>
     requires { AreLiterals (tokens_view tokens.now) }
     ensures meaning { IfOk result (λ m. (w : naming.World) → IsWorld world.now w → w.name ≡ home.now
-        → made_view m ≡ spec.top_made w (option_map annotation_view before) (trees.Define
+        → made_view m ≡ spec.top_made w (option_map annotation_view before.old) (trees.Define
         (word_view (tokens_view tokens.now) name) (tree_view.patterns_view (tokens_view tokens.now) parameters.now)
         (tree_view.expr_view (tokens_view tokens.now) body.now))) }
     ensures log { OnOk result ((w : naming.World) → IsWorld world.now w → Grows w log.old log.new
         (definition_sites w no_locals (trees.Define
         (word_view (tokens_view tokens.now) name) (tree_view.patterns_view (tokens_view tokens.now) parameters.now)
         (tree_view.expr_view (tokens_view tokens.now) body.now)))) }
+    ensures before { OnOk result (before.new ≡ None) }
 {
     let mut scope = Scope::new(alloc);
     let words = words_of_all(alloc, tokens, parameters)?;
@@ -76,16 +112,7 @@ fn named(
     note_bindings(alloc, tokens, world, &scope, log, &words)?;
     let value = scoped(alloc, tokens, world, &mut scope, log, &words, body)?;
     let title = top_name(alloc, tokens, home, name)?;
-    Ok(made_named(
-        tokens,
-        title,
-        name,
-        before,
-        parameters,
-        meant,
-        body,
-        Box::into_inner(value),
-    ))
+    Ok(made_by(tokens, title, name, before, parameters, meant, body, value))
 }
 
 /// Notes what is wrong in a pattern and in what it takes apart.
@@ -136,7 +163,6 @@ fn definition(
             Ok(Made::Nothing)
         }
         Definition::Define(name, parameters, body) => {
-            let before = before.take();
             named(
                 alloc, tokens, home, world, log, *name, parameters, body, before,
             )
@@ -177,8 +203,9 @@ fn item(
         }
         Declaration::Port(name, written) => {
             *before = None;
+            let title = top_name(alloc, tokens, home, *name)?;
             let port = port::resolve(alloc, tokens, world, *name, written, &mut log.findings)?;
-            Ok(Item::Port(top_name(alloc, tokens, home, *name)?, port.known))
+            Ok(Item::Port(title, port.known))
         }
         Declaration::Union(_, _, _) => {
             *before = None;

@@ -23,7 +23,7 @@ use Rattle.canon_declared.specs.Unions.{alternative_of, alternatives_of, unions_
 use Rattle.canon_aliases.specs.Types.{is_record, alias_of}
 use Rattle.canon_names.specs.Names.{names_of, names_in, constructor_words, is_closed_record}
 use Rattle.declared_types.specs.Types.{uses_in, module_world}
-use Rattle.canon_shown.specs.Offers.{without_makers, opaque, offered_by, unions_by, aliases_by, exposed_by}
+use Rattle.canon_module.specs.Offers.{without_makers, opaque, offered_by, unions_by, aliases_by, exposed_by}
 use Rattle.canon_module.specs.Resolve.{Setting, IsModule, declared_by, module_shows}
 use Rattle.elm_proper.specs.Proper.{Scope}
 use Rattle.canon_proper.specs.Rows.{AreConstructors, AreUnions}

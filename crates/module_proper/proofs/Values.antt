@@ -21,7 +21,7 @@ use Rattle.canon_sites.specs.Sites.{Reaching, Defined, faults_at}
 use Rattle.canon_sites.specs.Patterns.{words_of_all, patterns_of}
 use Rattle.canon_sites.specs.Types.{type_of}
 use Rattle.canon_type.specs.Ports.{PortForm, Outgoing, Incoming, NoPort, Untold, port_form}
-use Rattle.canon_ports.specs.Ports.{known_by, port_known}
+use Rattle.canon_values.specs.Ports.{known_by, port_known}
 use Rattle.canon_blocks.specs.Binding.{is_function}
 use Rattle.canon_blocks.specs.Blocks.{NoMade, made_of, title_of, reaching_sites}
 use Rattle.canon_leaves.specs.Exprs.{meant}

@@ -7,6 +7,6 @@ use Rattle.canon_calls.proofs.chain.chain.Given as goal
 -- what is left, after what waits, is the whole chain
 abbrev pub invariant-loop-operand : goal.invariant-loop-operand
 invariant-loop-operand l =
-    worked_off (waiting_view (tokens_view l.tokens) l.waiting.items) (callee_view l.callee)
+    worked_off (waiting_view (tokens_view l.tokens) l.waiting.items) (callee_view l.callee.value)
     (map (operand_view (tokens_view l.tokens)) l.operand-iterator.rest.items)
-    ≡ worked_off [] (callee_view l.fn.first) (map (operand_view (tokens_view l.tokens)) l.fn.operands.items)
+    ≡ worked_off [] (callee_view l.fn.first.value) (map (operand_view (tokens_view l.tokens)) l.fn.operands.items)

@@ -6,8 +6,8 @@ use Rattle.canon_calls.proofs.chain.join_all.Given as goal
 
 abbrev pub invariant-loop-last : goal.invariant-loop-last
 invariant-loop-last l =
-    closed (waiting_view (tokens_view l.tokens) l.waiting.items) (callee_view l.callee)
-    ≡ closed (waiting_view (tokens_view l.tokens) l.initial.waiting.items) (callee_view l.initial.callee)
+    closed (waiting_view (tokens_view l.tokens) l.waiting.items) (callee_view l.callee.value)
+    ≡ closed (waiting_view (tokens_view l.tokens) l.initial.waiting.items) (callee_view l.initial.callee.value)
 
 abbrev pub decreases-loop-last : goal.decreases-loop-last
 decreases-loop-last l = vec_len l.waiting

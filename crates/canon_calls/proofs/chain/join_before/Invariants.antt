@@ -7,13 +7,13 @@ use Rattle.canon_calls.proofs.chain.join_before.Given as goal
 
 abbrev pub invariant-loop-last : goal.invariant-loop-last
 invariant-loop-last l = record {
-  waiting : waits_on (waiting_view (tokens_view l.tokens) l.waiting.items) (callee_view l.callee)
+  waiting : waits_on (waiting_view (tokens_view l.tokens) l.waiting.items) (callee_view l.callee.value)
       (word_view (tokens_view l.tokens) l.operator)
-      ≡ waits_on (waiting_view (tokens_view l.tokens) l.initial.waiting.items) (callee_view l.initial.callee)
+      ≡ waits_on (waiting_view (tokens_view l.tokens) l.initial.waiting.items) (callee_view l.initial.callee.value)
       (word_view (tokens_view l.tokens) l.operator);
-  callee : reached (waiting_view (tokens_view l.tokens) l.waiting.items) (callee_view l.callee)
+  callee : reached (waiting_view (tokens_view l.tokens) l.waiting.items) (callee_view l.callee.value)
       (word_view (tokens_view l.tokens) l.operator)
-      ≡ reached (waiting_view (tokens_view l.tokens) l.initial.waiting.items) (callee_view l.initial.callee)
+      ≡ reached (waiting_view (tokens_view l.tokens) l.initial.waiting.items) (callee_view l.initial.callee.value)
       (word_view (tokens_view l.tokens) l.operator);
 }
 

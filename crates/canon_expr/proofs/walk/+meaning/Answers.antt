@@ -483,16 +483,16 @@ callee-returns-in_ok-operands-in-Chain t c =
     let more = c.in_ok-operands-in-Chain.ensures in
     record {
       meaning =
-          IfOk-weaker c.chained.result _ _
+          IfOk-weaker c.chain.result _ _
           (λ r is w locals s. construct.chain_means w locals _ e ps _ _ _ whole is
           (ap callee_view c.in_ok-first-in-Chain-2.ensures ∙ first.meaning w locals s)
           (more.meaning w locals (stays s first.scope)))
-          c.chained.ensures;
+          c.chain.ensures;
       log =
-          on_ok c.chained.result
+          on_ok c.chain.result
           (λ w locals s. grows_at _ _ (ap (expr_sites w locals) whole)
           (grows_more (first.log w locals s) (more.log w locals (stays s first.scope))));
-      scope = on_ok c.chained.result (more.scope ∙ first.scope);
+      scope = on_ok c.chain.result (more.scope ∙ first.scope);
     }
 
 pub callee-returns-in_ok-items-in-List : goal.callee-returns-in_ok-items-in-List
@@ -611,14 +611,17 @@ callee-returns-in_ok-no-in-If t c =
     let yes = c.in_ok-yes-in-If.ensures in
     let no = c.in_ok-no-in-If.ensures in
     record {
-      meaning = λ w locals s.
-          construct.if_means w locals _ e a b _ _ _ _ whole c.conditional.ensures (condition.meaning w locals s)
-          (yes.meaning w locals (stays s condition.scope)) (no.meaning w locals (stays s (yes.scope ∙ condition.scope)));
-      log = λ w locals s.
-          grows_at _ _ (ap (expr_sites w locals) whole)
+      meaning =
+          IfOk-weaker c.conditional.result _ _
+          (λ r is w locals s. construct.if_means w locals _ e a b _ _ _ _ whole is (condition.meaning w locals s)
+          (yes.meaning w locals (stays s condition.scope)) (no.meaning w locals (stays s (yes.scope ∙ condition.scope))))
+          c.conditional.ensures;
+      log =
+          on_ok c.conditional.result
+          (λ w locals s. grows_at _ _ (ap (expr_sites w locals) whole)
           (grows_more (grows_more (condition.log w locals s) (yes.log w locals (stays s condition.scope)))
-          (no.log w locals (stays s (yes.scope ∙ condition.scope))));
-      scope = no.scope ∙ yes.scope ∙ condition.scope;
+          (no.log w locals (stays s (yes.scope ∙ condition.scope)))));
+      scope = on_ok c.conditional.result (no.scope ∙ yes.scope ∙ condition.scope);
     }
 
 pub callee-returns-in_ok-branches-in-Case : goal.callee-returns-in_ok-branches-in-Case
@@ -669,12 +672,17 @@ callee-returns-in_ok-leave-in-Let t c =
     let body = c.in_ok-body-in-Let.ensures in
     let names = entered.names ∙ ap (λ xs. with_names (bound_in xs) (locals_of c.args.scope.now)) same in
     record {
-      meaning = λ w locals s.
+      meaning =
+          IfOk-weaker c.let_in.result _ _
+          (λ r is w locals s.
           let inside = enters (bound_in ds) s names in
-          construct.let_means w locals _ e ds _ _ _ whole c.let_in.ensures
+          construct.let_means w locals _ e ds _ _ _ whole is
           (groups.meaning w (with_names (bound_in ds) locals) inside)
-          (body.meaning w (with_names (bound_in ds) locals) (stays inside groups.scope));
-      log = λ w locals s.
+          (body.meaning w (with_names (bound_in ds) locals) (stays inside groups.scope)))
+          c.let_in.ensures;
+      log =
+          on_ok c.let_in.result
+          (λ w locals s.
           let inside = enters (bound_in ds) s names in
           grows_at _ _ (ap (expr_sites w locals) whole)
           (block_grows (joined_sites (definitions_sites w (with_names (bound_in ds) locals) ds))
@@ -683,10 +691,11 @@ callee-returns-in_ok-leave-in-Let t c =
           (grows_at _ _ (ap (λ xs. binding_sites locals (bound_in xs)) (sym same))
           (here (λ ls. binding_sites ls (bound_in entered_at)) s (entered.log w s.is_world)))
           (groups.log w (with_names (bound_in ds) locals) inside)
-          (body.log w (with_names (bound_in ds) locals) (stays inside groups.scope)));
+          (body.log w (with_names (bound_in ds) locals) (stays inside groups.scope))));
       scope =
-          c.in_ok-leave-in-Let.ensures
-          ∙ ap (without c.in_ok-entered-in-Let.entered.items) (body.scope ∙ groups.scope) ∙ entered.entered;
+          on_ok c.let_in.result
+          (c.in_ok-leave-in-Let.ensures
+          ∙ ap (without c.in_ok-entered-in-Let.entered.items) (body.scope ∙ groups.scope) ∙ entered.entered);
     }
 
 pub callee-returns-in_ok-body-in-Lambda : goal.callee-returns-in_ok-body-in-Lambda

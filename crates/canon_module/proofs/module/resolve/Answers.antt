@@ -18,7 +18,7 @@ use Rattle.canon_names.specs.View.{names_view}
 use Rattle.canon_names.specs.Faults.{name_faults}
 use Rattle.canon_values.specs.Faults.{value_faults}
 use Rattle.declared_types.specs.Types.{module_world, declared_faults}
-use Rattle.canon_shown.specs.Offers.{exposed_by, shown_by}
+use Rattle.canon_module.specs.Offers.{exposed_by, shown_by}
 use Rattle.canon_module.specs.Resolve.{IsModule, declared_by, union_name}
 use Rattle.canon_module.specs.Kept.{setting_view}
 use Rattle.canon_module.proofs.Whole.{is_module, only_module, declared_same}

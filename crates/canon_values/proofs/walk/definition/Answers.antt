@@ -10,7 +10,6 @@ use Rattle.elm_tree.proofs.Views as views
 use Rattle.elm_canon.specs.View.{annotation_view}
 use Rattle.canon_sites.specs.Locals.{no_locals}
 use Rattle.canon_sites.specs.Sites.{faults_at}
-use Rattle.canon_pattern.proofs.Meaning.{on_ok}
 use Rattle.canon_leaves.specs.Exprs.{annotation_of, definition_sites}
 use Rattle.canon_values.specs.Items.{top_made}
 use Rattle.canon_values.proofs.walk.definition.Goals as goal
@@ -50,7 +49,6 @@ returns-in-Define-clause-meaning c =
     IfOk-weaker c.named.result _ _
     (λ m told w is named.
     told w is named
-    ∙ ap (λ b. top_made w (option_map annotation_view b) (tree.Define x (patterns_view tokens c.deref.result.now) e)) c.take-before.ensures.value
     ∙ ap (λ ps. top_made w before (tree.Define x (patterns_view tokens ps) e)) c.deref.ensures.value
     ∙ ap (top_made w before) (sym whole))
     c.named.ensures.meaning
@@ -74,10 +72,11 @@ returns-in-Define-clause-faults c =
 pub returns-in-Define-clause-before : goal.returns-in-Define-clause-before
 returns-in-Define-clause-before c =
     let tokens = tokens_view c.args.tokens.now in
-    on_ok c.named.result
-    (λ w is. ap (option_map annotation_view) c.take-before.ensures.after
+    on_ok_weaker c.named.result
+    (λ none w is. ap (option_map annotation_view) none
     ∙ sym (ap (annotation_of w) (ap (definition_view tokens) c.in-Define.is
     ∙ views.define_definition tokens c.in-Define.name c.in-Define.parameters c.in-Define.body)))
+    c.named.ensures.before
 
 pub returns-in_ok-note_parts-in-Destructure-clause-meaning :
     goal.returns-in_ok-note_parts-in-Destructure-clause-meaning

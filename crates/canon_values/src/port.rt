@@ -9,7 +9,7 @@ ghost use Rattle.canon_sites.specs.Naming as naming;
 ghost use Rattle.canon_sites.specs.Naming.{IsWorld};
 ghost use Rattle.canon_type.specs.Ports.{port_form, port_view};
 ghost use Rattle.port_payload.specs.Payloads.{payload_of};
-ghost use Rattle.canon_ports.specs.Ports as spec;
+ghost use Rattle.canon_values.specs.Ports as spec;
 
 use canon_annotation::annotation::annotation;
 use canon_env::env::World;

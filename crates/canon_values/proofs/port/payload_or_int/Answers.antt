@@ -2,8 +2,8 @@
 use Rattle.std.proofs.Common.{option_map, sym, ap, ◌∙◌}
 use Rattle.elm_canon.specs.View.{payload_view}
 use Rattle.elm_canon.proofs.Views.{int_payload}
-use Rattle.canon_ports.specs.Ports.{payload_or_int}
-use Rattle.canon_ports.proofs.port.payload_or_int.Goals as goal
+use Rattle.canon_values.specs.Ports.{payload_or_int}
+use Rattle.canon_values.proofs.port.payload_or_int.Goals as goal
 
 pub returns-in_ok-push-in-None-clause-payload : goal.returns-in_ok-push-in-None-clause-payload
 returns-in_ok-push-in-None-clause-payload c =

@@ -10,7 +10,7 @@ use Rattle.canon_env.specs.Imports.{Exposing, exposes_type}
 use Rattle.canon_env.specs.Filter.{Filters, filter_value, filter_type, filter_makers}
 use Rattle.canon_env.specs.Shown.{Shown}
 use Rattle.canon_env.specs.declared.filter.Filter.{Filter}
-use Rattle.canon_shown.specs.Offers.{offered_by, unions_by, aliases_by, shown_by}
+use Rattle.canon_module.specs.Offers.{offered_by, unions_by, aliases_by, shown_by}
 
 unions_by-append : (shows opens : Name → Bool) (us more : List UnionDeclaration) →
     unions_by shows opens us ++ unions_by shows opens more ≡ unions_by shows opens (us ++ more)

@@ -8,7 +8,7 @@ ghost use Rattle.elm_canon.specs.View.{union_declaration_view};
 ghost use Rattle.canon_env.specs.Imports.{exposing_view};
 ghost use Rattle.canon_env.specs.Filter.{filter_value, filter_type, filter_makers};
 ghost use Rattle.canon_env.specs.Shown.{shown_view, unions_view, aliases_view};
-ghost use Rattle.canon_shown.specs.Offers as spec;
+ghost use Rattle.canon_module.specs.Offers as spec;
 
 use canon_env::filter::Filter;
 use canon_env::import::{Exposing, exposing_names};
@@ -23,7 +23,7 @@ use std::sync::Arc;
 
 /// What the header `header` exposes by the text of the tokens `tokens`. None: the module has no header, and exposes
 /// everything. The error means that memory ran out.
-pub fn exposed_by(
+pub(crate) fn exposed_by(
     alloc: Global,
     tokens: &[Token<'_>],
     header: &Option<Header>,
@@ -135,7 +135,7 @@ fn aliases(
 /// What a module shows to those that import it, where its header exposes `exposes`: it declares `all`, and has the
 /// unions `given` without a text. A union whose constructors are not exposed has none. It takes time in proportion to
 /// what is declared and exposed. The error means that memory ran out.
-pub fn shown_by(
+pub(crate) fn shown_by(
     alloc: Global,
     exposes: &Exposing,
     given: &[Arc<UnionDeclaration, Global>],

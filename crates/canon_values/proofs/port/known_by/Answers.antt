@@ -3,8 +3,8 @@ use Rattle.std.proofs.Common.{sym, ap, ◌∙◌}
 use Rattle.elm_canon.specs.Tree.{OutPort}
 use Rattle.elm_canon.proofs.Views.{int_payload}
 use Rattle.canon_type.specs.Ports.{port_view}
-use Rattle.canon_ports.specs.Ports.{known_by}
-use Rattle.canon_ports.proofs.port.known_by.Goals as goal
+use Rattle.canon_values.specs.Ports.{known_by}
+use Rattle.canon_values.proofs.port.known_by.Goals as goal
 
 pub returns-in_ok-push-in-NoPort-clause-known : goal.returns-in_ok-push-in-NoPort-clause-known
 returns-in_ok-push-in-NoPort-clause-known c =

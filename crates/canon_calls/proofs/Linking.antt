@@ -1,4 +1,4 @@
--- What is done with an expression, one thing more.
+-- What is done with an expression, and with the last of some parts.
 use Rattle.std.proofs.Common.{◌≡◌, ◌<◌, List, [], ◌∷◌, ◌++◌, map, length, refl, arith}
 use Rattle.elm_canon.specs.Tree.{Expr, Apply, exprs_of}
 use Rattle.elm_canon.specs.View.{linked, done, link_view, expr_view}
@@ -6,10 +6,10 @@ use Rattle.elm_canon.specs.declared.tree.Expr as program
 use Rattle.elm_canon.specs.declared.tree.Link.{Link}
 use Rattle.canon_calls.specs.Callees as spec
 
-pub one_more : (e : Expr) (ls : List Link) (l : Link) →
-    linked e (map link_view (ls ++ l ∷ [])) ≡ done (link_view l) (linked e (map link_view ls))
-one_more e [] l = refl
-one_more e (k ∷ ls) l = one_more (done (link_view k) e) ls l
+pub many_more : (e : Expr) (ls more : List Link) →
+    linked e (map link_view (ls ++ more)) ≡ linked (linked e (map link_view ls)) (map link_view more)
+many_more e [] more = refl
+many_more e (k ∷ ls) more = many_more (done (link_view k) e) ls more
 
 -- a function with an argument is a call
 pub given_more : (f : Expr) (es : List Expr) (e : Expr) → Apply f (exprs_of (es ++ e ∷ [])) ≡ spec.given f (es ++ e ∷ [])

@@ -1,8 +1,8 @@
 use Rattle.std.proofs.Common.{◌≡◌, ◌++◌, take}
 use Rattle.canon_env.specs.Filter.{filter_type, filter_makers}
 use Rattle.canon_env.specs.Shown.{unions_view}
-use Rattle.canon_shown.specs.Offers.{unions_by}
-use Rattle.canon_shown.proofs.shown.push_unions.Given as goal
+use Rattle.canon_module.specs.Offers.{unions_by}
+use Rattle.canon_module.proofs.shown.push_unions.Given as goal
 
 abbrev pub invariant-loop-union : goal.invariant-loop-union
 invariant-loop-union l =

@@ -4,9 +4,9 @@ use Rattle.std.specs.List.{filter}
 use Rattle.canon_env.specs.Imports.{exposing_view}
 use Rattle.canon_env.specs.Filter.{filter_value, filter_type, filter_makers}
 use Rattle.canon_env.specs.Shown.{shown_view, unions_view, aliases_view}
-use Rattle.canon_shown.specs.Offers.{unions_by, aliases_by}
-use Rattle.canon_shown.proofs.Offering.{shown_through}
-use Rattle.canon_shown.proofs.shown.shown_by.Goals as goal
+use Rattle.canon_module.specs.Offers.{unions_by, aliases_by}
+use Rattle.canon_module.proofs.Offering.{shown_through}
+use Rattle.canon_module.proofs.shown.shown_by.Goals as goal
 
 pub returns : goal.returns
 returns c =

@@ -1,2 +1,0 @@
--- what a filter lets through is what is exposed
-pub mod Offering

@@ -1,4 +1,0 @@
-//! What a module shows to those that import it.
-#![tactic(auto)]
-
-pub mod shown;
