@@ -1,0 +1,4 @@
+//! Ground types: what types without variables are, and what a variable may stand for.
+#![tactic(auto)]
+
+pub mod laws;

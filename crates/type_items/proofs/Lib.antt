@@ -1,0 +1,2 @@
+-- parts of the items of a module
+pub mod Parts

@@ -1,0 +1,4 @@
+//! What a module asks of the types of its parts, which types solve it, and what inference tells of it.
+#![tactic(auto)]
+
+pub mod laws;
