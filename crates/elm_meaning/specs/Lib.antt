@@ -1,0 +1,14 @@
+pub mod Functions
+pub mod Values
+pub mod Envs
+pub mod Seen
+pub mod Equal
+pub mod Order
+pub mod Match
+pub mod Ports
+pub mod Operate
+pub mod Primitives
+pub mod Eval
+pub mod Run
+pub mod Samples
+pub mod Examples

@@ -1,0 +1,11 @@
+use Rattle.meaning_laws.proofs.laws.record_laws.Goals as goal
+use Rattle.meaning_laws.proofs.Records.{records_hold, updates_hold, records_rise, updates_rise, records_alike}
+
+pub returns : goal.returns
+returns c = record {
+  records_hold = records_hold;
+  updates_hold = updates_hold;
+  records_rise = records_rise;
+  updates_rise = updates_rise;
+  records_alike = records_alike;
+}

@@ -1,0 +1,4 @@
+pub mod Fuel
+pub mod Binding
+pub mod Comparing
+pub mod Records

@@ -1,0 +1,4 @@
+//! What holds of the meaning of the source, whatever the expression, the values or the program.
+#![tactic(auto)]
+
+pub mod laws;
