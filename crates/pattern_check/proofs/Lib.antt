@@ -1,0 +1,15 @@
+pub mod Members
+pub mod Rows
+pub mod Heads
+pub mod Where
+pub mod Sound
+pub mod Complete
+pub mod Reported
+pub mod Flattened
+pub mod Lists
+pub mod Listing
+pub mod Searching
+pub mod Checked
+pub mod Building
+pub mod Reporting
+pub mod Writing

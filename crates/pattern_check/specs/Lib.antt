@@ -1,0 +1,13 @@
+pub mod Shapes
+pub mod Missing
+pub mod Laws
+pub mod Built
+pub mod Text
+pub mod TextExamples
+pub mod Written
+pub mod Counted
+pub mod Search
+pub mod Listed
+pub mod Starts
+pub mod Flat
+pub mod Examples
