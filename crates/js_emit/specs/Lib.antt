@@ -1,0 +1,12 @@
+pub mod Names
+pub mod Codecs
+pub mod Matrix
+pub mod Choice
+pub mod Patterns
+pub mod Operators
+pub mod Loops
+pub mod Made
+pub mod Emit
+pub mod Program
+pub mod Samples
+pub mod Examples

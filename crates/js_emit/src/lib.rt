@@ -1,0 +1,4 @@
+//! From the canonical tree to JavaScript: what is emitted for a program.
+#![tactic(auto)]
+
+pub mod laws;
