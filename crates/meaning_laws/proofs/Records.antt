@@ -23,7 +23,7 @@ lt_step true b r = refl
 lt_step false true r = refl
 lt_step false false r = refl
 
-lt_by_order : (s t : List ℕ) → units_lt s t ≡ is_lt (slice_cmp nat_cmp s t)
+pub lt_by_order : (s t : List ℕ) → units_lt s t ≡ is_lt (slice_cmp nat_cmp s t)
 lt_by_order [] [] = refl
 lt_by_order (u ∷ us) [] = refl
 lt_by_order [] (v ∷ vs) = refl
@@ -66,7 +66,7 @@ swap_tests true true x y z h = absurd (h refl refl)
 swap_tests true false x y z h = refl
 swap_tests false b x y z h = refl
 
-found_inserted : (k j : Name) (v : Value) (fs : FieldValues) → has_field j fs ≡ false → field_in k (insert_field j v fs) ≡ (if same_name k j then Val v else field_in k fs)
+pub found_inserted : (k j : Name) (v : Value) (fs : FieldValues) → has_field j fs ≡ false → field_in k (insert_field j v fs) ≡ (if same_name k j then Val v else field_in k fs)
 found_inserted k j v NoFieldV e = refl
 found_inserted k j v (MoreFieldV i w fs) e = go (units_lt i j) (found_inserted k j v fs (or_right (same_name j i) (has_field j fs) e))
   where
@@ -81,15 +81,15 @@ found_inserted k j v (MoreFieldV i w fs) e = go (units_lt i j) (found_inserted k
     go false again = refl
 
 -- before all of these
-abbrev Under : Name → FieldValues → Type 0
+abbrev pub Under : Name → FieldValues → Type 0
 Under i NoFieldV = Unit {0}
 Under i (MoreFieldV j v fs) = units_lt i j ≡ true
 
-rises_more : (i : Name) (w : Value) (fs : FieldValues) → Under i fs → Rises fs → Rises (MoreFieldV i w fs)
+pub rises_more : (i : Name) (w : Value) (fs : FieldValues) → Under i fs → Rises fs → Rises (MoreFieldV i w fs)
 rises_more i w NoFieldV u r = tt
 rises_more i w (MoreFieldV j v fs) u r = (u, r)
 
-rest_rises : (i : Name) (w : Value) (fs : FieldValues) → Rises (MoreFieldV i w fs) → Under i fs × Rises fs
+pub rest_rises : (i : Name) (w : Value) (fs : FieldValues) → Rises (MoreFieldV i w fs) → Under i fs × Rises fs
 rest_rises i w NoFieldV r = (tt, tt)
 rest_rises i w (MoreFieldV j v fs) r = (r.0, r.1)
 
@@ -101,7 +101,7 @@ under_inserted i j v (MoreFieldV k w fs) l u = go (units_lt k j)
     go true = u
     go false = l
 
-inserted_rises : (j : Name) (v : Value) (fs : FieldValues) → has_field j fs ≡ false → Rises fs → Rises (insert_field j v fs)
+pub inserted_rises : (j : Name) (v : Value) (fs : FieldValues) → has_field j fs ≡ false → Rises fs → Rises (insert_field j v fs)
 inserted_rises j v NoFieldV e r = tt
 inserted_rises j v (MoreFieldV i w fs) e r =
     go (units_lt i j) refl (inserted_rises j v fs (or_right (same_name j i) (has_field j fs) e) (rest_rises i w fs r).1)
@@ -221,7 +221,7 @@ not_equal Greater e = absurd (let w : false ≡ true = e in cc)
 lt_apart : (i j : Name) → units_lt i j ≡ true → same_name i j ≡ false
 lt_apart i j e = text_by_order i j ∙ not_equal (slice_cmp nat_cmp i j) (sym (lt_by_order i j) ∙ e)
 
-under_less : (i j : Name) (fs : FieldValues) → units_lt i j ≡ true → Under j fs → Under i fs
+pub under_less : (i j : Name) (fs : FieldValues) → units_lt i j ≡ true → Under j fs → Under i fs
 under_less i j NoFieldV e u = tt
 under_less i j (MoreFieldV k v fs) e u = lt_trans i j k e u
 
@@ -235,7 +235,7 @@ none_under i (MoreFieldV j v fs) u r =
 first_found : (i : Name) (v : Value) (fs : FieldValues) → field_in i (MoreFieldV i v fs) ≡ Val v
 first_found i v fs = ap (λ (b : Bool). if b then Val v else field_in i fs) ((bytes_eq-Decides i i).1 refl)
 
-same_record : (fs gs : FieldValues) → Rises fs → Rises gs → ((k : Name) → field_in k fs ≡ field_in k gs) → fs ≡ gs
+pub same_record : (fs gs : FieldValues) → Rises fs → Rises gs → ((k : Name) → field_in k fs ≡ field_in k gs) → fs ≡ gs
 same_record NoFieldV NoFieldV r s h = refl
 same_record NoFieldV (MoreFieldV j w gs) r s h = absurd (let e : Stuck ≡ Val w = h j ∙ first_found j w gs in cc)
 same_record (MoreFieldV i v fs) NoFieldV r s h = absurd (let e : Val v ≡ Stuck = sym (first_found i v fs) ∙ h i in cc)

@@ -1,0 +1,5 @@
+pub mod Rows
+pub mod Choose
+pub mod Tests
+pub mod Trees
+pub mod Cases

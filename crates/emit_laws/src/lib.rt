@@ -1,0 +1,4 @@
+//! What holds of what is emitted.
+#![tactic(auto)]
+
+pub mod laws;

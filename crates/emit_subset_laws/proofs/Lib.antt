@@ -1,0 +1,11 @@
+pub mod Uses
+pub mod Assigned
+pub mod Parts
+pub mod Functions
+pub mod Bound
+pub mod Words
+pub mod Choices
+pub mod Spelled
+pub mod Codecs
+pub mod Lines
+pub mod Samples

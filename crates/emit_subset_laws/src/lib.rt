@@ -1,0 +1,4 @@
+//! What is emitted is in the subset.
+#![tactic(auto)]
+
+pub mod laws;
