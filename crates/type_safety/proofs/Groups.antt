@@ -10,12 +10,12 @@ use Rattle.type_items.specs.Scopes.{Entry, Mono, Entries, Known, Scope, elsewher
 use Rattle.type_items.specs.Definitions.{Definition, member_items, group_items, first_type, type_in_group, general, with_group}
 use Rattle.type_items.specs.Expressions.{items, function_items, function_definitions}
 use Rattle.type_items.specs.Solutions.{Values, Solves}
-use Rattle.type_safety.specs.Frames.{Frame, of, Agree, Serves}
-use Rattle.type_safety.specs.World.{World}
-use Rattle.type_safety.specs.Typed.{Stages, AtStage, Lists, Members, hides, or_named, Fits}
+use Rattle.typed_values.specs.Frames.{Frame, of, Agree, Serves}
+use Rattle.typed_values.specs.World.{World}
+use Rattle.typed_values.specs.Typed.{Stages, AtStage, IsChecked, Lists, Members, hides, or_named, Fits}
 use Rattle.type_safety.specs.Binding.{AllChecked, GroupFitsScope}
-use Rattle.type_safety.proofs.Names.{not_or, ref_itself, found, skip, first, solves_left, solves_right}
-use Rattle.type_safety.proofs.Envs.{fits_keep, fits_move}
+use Rattle.typed_values.proofs.Names.{not_or, ref_itself, found, skip, first, solves_left, solves_right}
+use Rattle.typed_values.proofs.Envs.{fits_keep, fits_move}
 
 -- a copy asks for no sizes, which any types meet
 pub solves_uncopied : (values : Values) (is : List Item) → Solves values (copied is) → Solves values is
@@ -82,10 +82,11 @@ type_first : (x : Ref) (t : Wanted) (names : Entries) → type_among x ((x, Mono
 type_first x t names =
     ap (λ b. first_type (one_types (cond b ((x, Mono t) ∷ filter (λ n. same_ref x n.0) names) (filter (λ n. same_ref x n.0) names)))) (ref_itself x)
 
-abbrev stages_of : Functions → Scope → Frame → Stages
-stages_of fs S f = record {
+abbrev stages_of : Functions → Scope → (Ref → Bool) → Frame → Stages
+stages_of fs S U f = record {
   scopes = λ k q. scope_in fs S q;
   listed = λ k q. copied (group_items (function_definitions fs) S q);
+  hidden = λ k. U;
   around = S;
   base = f;
 }
@@ -94,7 +95,7 @@ module _ (w : World) (whole : Functions) (S : Scope) (a : Frame) (U : Ref → Bo
   -- the items of the members from the number i on
   abbrev From : Functions → ℕ → Type 0
   From fs i =
-      (q : Place) (g : Frame) → AtStage (stages_of whole S a) 0 q g
+      (q : Place) (g : Frame) → AtStage (stages_of whole S U a) 0 q g
       → Solves g.values (flat_map (member_items (scope_in whole S q) q) (enumerate_from i (function_definitions fs)))
 
   abbrev own_items : Title → Patterns → Expr → Place → ℕ → List Item
@@ -109,9 +110,10 @@ module _ (w : World) (whole : Functions) (S : Scope) (a : Frame) (U : Ref → Bo
   from_next : (title : Title) (qs : Patterns) (e : Expr) (fs : Functions) (i : ℕ) → From (MoreFunction title qs e fs) i → From fs (i + 1)
   from_next title qs e fs i b q g st = solves_right g (own_items title qs e q i ++ sized title q i) (rest_items fs q (i + 1)) (b q g st)
 
-  from_first : (title : Title) (qs : Patterns) (e : Expr) (fs : Functions) (i : ℕ) → From (MoreFunction title qs e fs) i → (q : Place) (g : Frame)
-      → AtStage (stages_of whole S a) 0 q g → Lists (stages_of whole S a) qs e (of g (at (child q i)))
-  from_first title qs e fs i b q g st = record {
+  from_first : (title : Title) (qs : Patterns) (e : Expr) (fs : Functions) (i : ℕ) → From (MoreFunction title qs e fs) i → IsChecked w U qs e → (q : Place) (g : Frame)
+      → AtStage (stages_of whole S U a) 0 q g → Lists w (stages_of whole S U a) qs e (of g (at (child q i)))
+  from_first title qs e fs i b checked q g st = record {
+    is_checked = checked;
     stage = 0;
     at_place = q;
     frame = g;
@@ -127,9 +129,9 @@ module _ (w : World) (whole : Functions) (S : Scope) (a : Frame) (U : Ref → Bo
   all_from q g st = solves_uncopied g.values (group_items (function_definitions whole) S q) st.solves
 
   -- inside the group
-  members_mono : (fs : Functions) (i : ℕ) (h : Ref → Bool) (q : Place) (g : Frame) → AtStage (stages_of whole S a) 0 q g → From fs i → AllChecked w U fs
+  members_mono : (fs : Functions) (i : ℕ) (h : Ref → Bool) (q : Place) (g : Frame) → AtStage (stages_of whole S U a) 0 q g → From fs i → AllChecked w U fs
       → ((y : Ref) → h y ≡ false → entry_of (scope_in whole S q) y ≡ found y (types_at fs S.known q i ++ S.names) (elsewhere S.known y))
-      → Members w (stages_of whole S a) U fs h (scope_in whole S q) g
+      → Members w (stages_of whole S U a) fs h (scope_in whole S q) g
   members_mono NoFunction i h q g st b checked skips = tt
   members_mono (MoreFunction title qs e fs) i h q g st b checked skips = (
     (λ n. (
@@ -138,9 +140,9 @@ module _ (w : World) (whole : Functions) (S : Scope) (a : Frame) (U : Ref → Bo
           let here : Some (Mono (at (child q i))) ≡ Some entry =
           sym (skips title.name n ∙ first title.name (Mono (at (child q i))) (types_at fs S.known q (i + 1) ++ S.names) (elsewhere S.known title.name)) ∙ is in
           let same : Mono (at (child q i)) ≡ entry = cc in
-          subst (λ o. Serves (Lists (stages_of whole S a) qs e) o (scope_in whole S q) g) same (from_first title qs e fs i b q g st),
+          subst (λ o. Serves (Lists w (stages_of whole S U a) qs e) o (scope_in whole S q) g) same (from_first title qs e fs i b checked.1 q g st),
     )),
-    members_mono fs (i + 1) (or_named title.name h) q g st (from_next title qs e fs i b) checked.1 (λ y n.
+    members_mono fs (i + 1) (or_named title.name h) q g st (from_next title qs e fs i b) checked.2 (λ y n.
         let o = not_or (same_ref y title.name) (h y) n in
         skips y o.1 ∙ skip y title.name (Mono (at (child q i))) (types_at fs S.known q (i + 1) ++ S.names) (elsewhere S.known y) o.0),
   )
@@ -149,7 +151,7 @@ module _ (w : World) (whole : Functions) (S : Scope) (a : Frame) (U : Ref → Bo
   members_general : (fs : Functions) (i : ℕ) (h : Ref → Bool) → From fs i → AllChecked w U fs
       → ((y : Ref) → h y ≡ false → entry_of (scope_of whole S) y ≡ found y (generals (function_definitions whole) S fs [] i ++ S.names) (elsewhere S.known y))
       → ((y : Ref) (q : Place) → h y ≡ false → type_in_group (function_definitions whole) S.known y q ≡ type_among y (types_at fs S.known q i))
-      → Members w (stages_of whole S a) U fs h (scope_of whole S) a
+      → Members w (stages_of whole S U a) fs h (scope_of whole S) a
   members_general NoFunction i h b checked skips types = tt
   members_general (MoreFunction title qs e fs) i h b checked skips types = (
     (λ n. (
@@ -159,13 +161,13 @@ module _ (w : World) (whole : Functions) (S : Scope) (a : Frame) (U : Ref → Bo
           let here : Some G ≡ Some entry =
           sym (skips title.name n ∙ first title.name G (generals (function_definitions whole) S fs [] (i + 1) ++ S.names) (elsewhere S.known title.name)) ∙ is in
           let same : G ≡ entry = cc in
-          subst (λ o. Serves (Lists (stages_of whole S a) qs e) o (scope_of whole S) a) same (λ q g stands agree sol.
-          let st : AtStage (stages_of whole S a) 0 q g = record { stands = stands; agree = narrow (function_definitions whole) S (types_at whole S.known [] 0) a g agree; solves = sol } in
+          subst (λ o. Serves (Lists w (stages_of whole S U a) qs e) o (scope_of whole S) a) same (λ q g stands agree sol.
+          let st : AtStage (stages_of whole S U a) 0 q g = record { stands = stands; agree = narrow (function_definitions whole) S (types_at whole S.known [] 0) a g agree; solves = sol } in
           let type : type_in_group (function_definitions whole) S.known title.name q ≡ at (child q i) =
           types title.name q n ∙ type_first title.name (at (child q i)) (types_at fs S.known q (i + 1)) in
-          subst (λ t. Lists (stages_of whole S a) qs e (of g t)) (sym type) (from_first title qs e fs i b q g st)),
+          subst (λ t. Lists w (stages_of whole S U a) qs e (of g t)) (sym type) (from_first title qs e fs i b checked.1 q g st)),
     )),
-    members_general fs (i + 1) (or_named title.name h) (from_next title qs e fs i b) checked.1
+    members_general fs (i + 1) (or_named title.name h) (from_next title qs e fs i b) checked.2
         (λ y n.
         let o = not_or (same_ref y title.name) (h y) n in
         skips y o.1 ∙ skip y title.name (general (function_definitions whole) S title.name) (generals (function_definitions whole) S fs [] (i + 1) ++ S.names) (elsewhere S.known y) o.0)
@@ -176,14 +178,13 @@ module _ (w : World) (whole : Functions) (S : Scope) (a : Frame) (U : Ref → Bo
 
   group_fits : (env : Env) → AllChecked w U whole → Fits w env U S a → Fits w (BindGroup whole env) U (scope_of whole S) a
   group_fits env checked f = record {
-    stages = stages_of whole S a;
-    inside = U;
+    stages = stages_of whole S U a;
     members = members_general whole 0 U all_from checked (λ y n. refl) (λ y q n. refl);
     rest = fits_keep w env U (hides whole U) S (scope_of whole S) a
         (λ y n. (let r = no_general (function_definitions whole) S whole U y [] 0 S.names (elsewhere S.known y) n in (r.0, λ entry is. sym r.1 ∙ is)))
         (record { known = refl; agree = λ g h agree. narrow (function_definitions whole) S (types_at whole S.known [] 0) g h agree }) f;
     closing = λ k q g st.
-        let st0 : AtStage (stages_of whole S a) 0 q g = record { stands = st.stands; agree = st.agree; solves = st.solves } in (
+        let st0 : AtStage (stages_of whole S U a) 0 q g = record { stands = st.stands; agree = st.agree; solves = st.solves } in (
           members_mono whole 0 U q g st0 all_from checked (λ y n. refl),
           fits_keep w env U (hides whole U) S (scope_in whole S q) g
               (λ y n. (let r = no_mono whole U y S.known q 0 S.names (elsewhere S.known y) n in (r.0, λ entry is. sym r.1 ∙ is)))

@@ -1,11 +1,10 @@
 -- Typed expressions end well, where each single step keeps types.
-use Rattle.std.proofs.Common.{◌≡◌, ℕ, zero, suc, ◌+◌, List, [], ◌∷◌, ◌++◌, map, Bool, true, false, cond, filter, Option, Some, None, ◌⊎◌, inl, inr, refl, sym, ap, ◌∙◌, subst, arith, eqb-true}
-use Rattle.std.specs.Prelude.{◌&&◌, ◌||◌, if◌then◌else◌, codes, nat_eq}
-use Rattle.std.specs.Str.{bytes_eq}
-use Rattle.std.proofs.lemmas.Slice.Eq.{bytes_eq-Decides}
+use Rattle.std.proofs.Common.{◌≡◌, ℕ, zero, suc, ◌+◌, List, [], ◌∷◌, ◌++◌, map, Bool, true, false, cond, Option, Some, None, ◌⊎◌, inl, inr, refl, sym, ap, ◌∙◌, subst}
+use Rattle.std.specs.Prelude.{◌||◌, if◌then◌else◌}
+use Rattle.std.specs.List.{AllByRecursion}
 use Rattle.elm_base.specs.declared.position.Pos.{Pos}
 use Rattle.runs.specs.Ends.{End, Val, Crashed, OutOfFuel, Unsafe, Stuck, then_do}
-use Rattle.elm_canon.specs.Names.{Name, same_ref}
+use Rattle.elm_canon.specs.Names.{same_ref}
 use Rattle.elm_canon.specs.declared.reference.Ref.{Ref}
 use Rattle.elm_canon.specs.declared.tree.Literal.TheVariants as literal
 use Rattle.elm_canon.specs.declared.tree.Connective.{Connective}
@@ -15,41 +14,67 @@ use Rattle.elm_canon.specs.Tree.{If, Logical, Let, Case, Located, Exprs, NoExpr,
 use Rattle.elm_canon.specs.Tree.{NoGroup, MoreGroup, Group, Together, Constant, Destructure, Functions, NoFunction, MoreFunction}
 use Rattle.elm_proper.specs.Proper.{count_exprs}
 use Rattle.elm_meaning.specs.Functions.{Getter}
-use Rattle.elm_meaning.specs.Values.{Value, IntV, TextV, TagV, RecordV, CloV, KnownV, WireV, MoreValue, Env, Bind, BindGroup}
+use Rattle.elm_meaning.specs.Values.{Value, IntV, TextV, TagV, RecordV, CloV, KnownV, WireV, MoreValue, Env, Bind}
 use Rattle.elm_meaning.specs.Match.{matches, on_match}
 use Rattle.elm_meaning.specs.Operate.{perform}
 use Rattle.elm_meaning.specs.Eval.{Call, eval_with, evals_with, apply_with, choose_with, if_true, left_decides, bind_with, group_with, enter, call_at}
-use Rattle.elm_type.specs.Types.{ElmTypes, NoType, MoreType, Made, Record, NoField, MoreField, Closed, Over, Kind, count, variables, Rigid, function, functions, int_type, char_type, string_type, bool_type}
-use Rattle.elm_type.specs.Classes.{Ground, meets, demand_met}
+use Rattle.elm_type.specs.Types.{NoType, MoreType, Made, Record, NoField, MoreField, Closed, function, functions, int_type, char_type, string_type, bool_type}
+use Rattle.elm_type.specs.Classes.{Ground}
 use Rattle.elm_type.specs.Rows.{extend, substitute}
-use Rattle.elm_type.specs.declared.class.Class.{Class}
-use Rattle.elm_type.specs.declared.class.Class.TheVariants.{Any, Number}
-use Rattle.elm_type.specs.declared.demands.Demand.TheVariants.{Never, Always}
-use Rattle.elm_type.specs.declared.head.Head.{Head}
-use Rattle.elm_type.specs.declared.head.Head.TheVariants as head
-use Rattle.ground_types.specs.Ground.{value, leaf_value, lacks}
-use Rattle.type_items.specs.Items.{Place, child, Wanted, at, children, Small}
-use Rattle.type_items.specs.Scopes.{Mono, Scope, elsewhere, one_types, with_names}
+use Rattle.ground_types.specs.Ground.{value, leaf_value}
+use Rattle.type_items.specs.Items.{Item, Place, child, Wanted, at, children}
+use Rattle.type_items.specs.Scopes.{Entry, entry_of, Mono, Known, Scope, elsewhere}
 use Rattle.type_items.specs.Patterns.{pattern_items, patterns_items, parameter_types, bind_pattern, bind_patterns}
 use Rattle.type_items.specs.Operations.{plan}
 use Rattle.type_items.specs.Uses.{used, used_each, used_branches, used_groups, used_group, used_functions}
-use Rattle.type_items.specs.Definitions.{Definition, in_written_order, type_groups, group_types, group_items, first_type, general, with_group, list_as, list_group, list_groups, list_definitions}
+use Rattle.type_items.specs.Definitions.{Definition, list_definitions}
 use Rattle.type_items.specs.Expressions.{items, each_items, part_items, branch_items, function_items, titled, definitions, group_definitions, function_definitions}
 use Rattle.type_items.specs.Solutions.{Solves}
-use Rattle.type_safety.specs.Frames.{Frame, of, Stands, Agree}
-use Rattle.type_safety.specs.World.{World, Knows}
-use Rattle.type_safety.specs.Simple.{Without}
-use Rattle.type_safety.specs.Typed.{EndsWell, or_named, bind_from, IsChecked, Has, HasEach, Fits}
-use Rattle.type_safety.specs.Binding.{AllChecked}
-use Rattle.type_safety.specs.Simple.{IsOperation, Takes, PassOver, singles, Simple, SimpleEach, SimpleBranches, SimpleGroups, SimpleGroup, SimpleFunctions}
-use Rattle.type_safety.specs.Steps.{IfMatched, StepsKeepTypes}
-use Rattle.type_safety.proofs.Names.{not_both, not_or, ref_itself, all_left, all_right, skip, solves_left, solves_right}
-use Rattle.type_safety.proofs.Envs.{of_functions, fits_keep, fits_move, fits_entry, fits_known, agree_refl}
-use Rattle.type_safety.proofs.Groups.{solves_uncopied, group_fits_scope}
-use Rattle.type_safety.proofs.Rows.{substitute_extend}
-use Rattle.type_safety.proofs.Keeping.{and_left, and_right, and_both, meets_any, fits_kept, bare_kept}
-use Rattle.type_safety.proofs.Uses.{uses_end_well}
-use Rattle.type_safety.proofs.Patterns.{up, no_nonsense, match_good}
+use Rattle.typed_values.specs.Frames.{Frame, of, Stands}
+use Rattle.typed_values.specs.World.{World, Knows}
+use Rattle.typed_values.specs.Simple.{Without}
+use Rattle.typed_values.specs.Typed.{EndsWell, or_named, bind_from, IsChecked, Has, HasEach, Fits}
+use Rattle.typed_values.specs.Simple.{IsPattern, IsOperation, Takes, branch_patterns, Simple, SimpleEach, SimpleBranches, SimpleGroups, SimpleGroup}
+use Rattle.typed_values.specs.Exhaustive.{IsPatternOf}
+use Rattle.typed_values.specs.Steps.{IfMatched, StepsKeepTypes}
+use Rattle.typed_values.proofs.Names.{not_both, not_or, all_left, all_right, solves_left, solves_right}
+use Rattle.typed_values.proofs.Envs.{of_functions, fits_known, agree_refl}
+use Rattle.elm_proper.specs.Proper.{bound_by, among}
+use Rattle.elm_meaning.specs.Values.{Nil}
+use Rattle.elm_meaning.specs.Envs.{lookup}
+use Rattle.type_items.specs.Patterns.{pattern_names, pattern_start}
+use Rattle.type_items.specs.Expressions.{nowhere}
+use Rattle.typed_values.specs.World.{Among}
+use Rattle.typed_values.specs.Frames.{Serves}
+use Rattle.typed_values.specs.Simple.{defines, AreApart, UseEarlier}
+use Rattle.typed_values.specs.Typed.{Stages, AtStage, hides}
+use Rattle.typed_values.proofs.Names.{yes_or_no, or_not}
+use Rattle.std.specs.Map.{lookup as entry_at}
+use Rattle.std.specs.Option.{option_map, option_or}
+use Rattle.elm_canon.specs.Tree as canon
+use Rattle.elm_canon.specs.Tree.{Declaration, Given, Define, Module}
+use Rattle.elm_meaning.specs.Functions as functions
+use Rattle.elm_meaning.specs.Values.{NoValue}
+use Rattle.elm_meaning.specs.Primitives.{known}
+use Rattle.elm_meaning.specs.Run.{declare_with}
+use Rattle.type_items.specs.Scopes.{Instance}
+use Rattle.type_items.specs.Modules.{module_scope, module_items}
+use Rattle.type_safety.specs.Modules.{IsConstructor, IsRecordMaker, groups_in, given_in, AreMakers, UseMakersBefore, IsPlain}
+use Rattle.type_safety.specs.Modules.{scope_after}
+use Rattle.type_safety.proofs.Modules.{GivenServes, Instances, declared_definitions}
+use Rattle.type_safety.proofs.Lets.{same_before}
+use Rattle.type_safety.proofs.Transfers.{fits_shown}
+use Rattle.type_safety.proofs.Stagings.{at_name, Named, AllNamed, group_at, listed_scope, last_alike, stage_wider}
+use Rattle.type_safety.proofs.Lets.{among_append, among_front, among_one, one_among, defines_append, Hs, T, Last, let_stages}
+use Rattle.type_safety.proofs.Lets.{fits_start, serve, Covered, covered, stage_fits, stage_free, title_own, title_noted}
+use Rattle.type_safety.proofs.Lets.{one_type_of, functions_fit}
+use Rattle.type_safety.proofs.Destructured.{names_mono, names_skip, names_has, Binds, bind_all, match_binds, hide_binds}
+use Rattle.type_safety.proofs.Destructured.{hide_lookup, fits_binds, binds_typed}
+use Rattle.typed_values.proofs.Rows.{substitute_extend}
+use Rattle.typed_values.proofs.Numbers.{number_is_int, standing_number, standing_lacks}
+use Rattle.typed_values.proofs.Keeping.{bare_kept}
+use Rattle.typed_values.proofs.Uses.{uses_end_well}
+use Rattle.typed_values.proofs.Patterns.{up, no_nonsense, match_good}
 
 pub then_well : {X Y : Type 0} (P : X → Type 0) (Q : Y → Type 0) (o : End X) (go : X → End Y) → EndsWell P o → ((x : X) → P x → EndsWell Q (go x)) → EndsWell Q (then_do o go)
 then_well P Q (Val x) go h k = k x h
@@ -65,10 +90,6 @@ then_each P Q OutOfFuel go h k = tt
 then_each P Q Unsafe go h k = tt
 then_each P Q Stuck go h k = absurd h
 
-without_both : (x : Ref) (U : Ref → Bool) (ys : List Ref) → Without (λ y. same_ref y x) ys → Without U ys → Without (or_named x U) ys
-without_both x U [] h k = tt
-without_both x U (y ∷ ys) h k = (ap (λ b. b || U y) h.0 ∙ k.0, without_both x U ys h.1 k.1)
-
 abbrev first_part : Ground → Ground
 first_part (Made h (MoreType t ts)) = t
 first_part (Made h NoType) = int_type
@@ -80,54 +101,33 @@ second_part (Made h (MoreType t NoType)) = int_type
 second_part (Made h NoType) = int_type
 second_part (Record fs end) = int_type
 
--- the type of the one name of a group
-type_of_one : (x : Ref) (t : Wanted) → first_type (one_types (filter (λ n. same_ref x n.0) ((x, Mono t) ∷ []))) ≡ t
-type_of_one x t = ap (λ b. first_type (one_types (cond b ((x, Mono t) ∷ []) []))) (ref_itself x)
+-- every branch passes the value over
+abbrev PassOver : Branches → Value → Env → Type 0
+PassOver bs v env = AllByRecursion (λ p. matches p v env ≡ Val None) (branch_patterns bs)
 
--- ---- numbers without constants are Int alone
+pattern_typed : (W : World) (q : Pattern) (known : Known) (a : Frame) (here : Pos) (p : Place) (t : Wanted) → IsPattern W q → Stands a → known ≡ W.known
+    → Solves a.values (pattern_items q known here p t) → IsPatternOf W (of a t) q
+pattern_typed W q known a here p t proper bare same sol = record {
+  is_pattern = proper;
+  here = here;
+  place = p;
+  wanted = t;
+  frame = a;
+  stands = bare;
+  solves = subst (λ k. Solves a.values (pattern_items q k here p t)) same sol;
+  is = refl;
+}
 
-number_of_name : (b c d : Bool) → demand_met (if ((b && c) && d) then Always else Never) (λ k. false) ≡ true → (b ≡ true) × (c ≡ true) × (d ≡ true)
-number_of_name true true true e = (refl, refl, refl)
-number_of_name true true false e = not_both false e refl
-number_of_name true false d e = not_both false e refl
-number_of_name false c d e = not_both false e refl
-
-demand_same : (b : Bool) (p q : Class → Bool) → demand_met (if b then Always else Never) p ≡ demand_met (if b then Always else Never) q
-demand_same true p q = refl
-demand_same false p q = refl
-
-no_arguments : (ts : ElmTypes Rigid) → nat_eq (count ts) 0 ≡ true → ts ≡ NoType
-no_arguments NoType e = refl
-no_arguments (MoreType t ts) e = absurd (let f : suc (count ts) ≡ 0 = eqb-true (suc (count ts)) 0 e in omega arith)
-
-number_head : (h : Head) (ts : ElmTypes Rigid) → meets Number (Made h ts) ≡ true → int_type ≡ Made h ts
-number_head (head.Named m x) ts e =
-    let n = number_of_name (bytes_eq m (codes "Basics")) (bytes_eq x (codes "Int")) (nat_eq (count ts) 0)
-    (demand_same ((bytes_eq m (codes "Basics") && bytes_eq x (codes "Int")) && nat_eq (count ts) 0) (λ k. false) _ ∙ e) in
-    let p : m ≡ codes "Basics" = (bytes_eq-Decides m (codes "Basics")).0 n.0 in
-    let q : x ≡ codes "Int" = (bytes_eq-Decides x (codes "Int")).0 n.1 in
-    let r : ts ≡ NoType = no_arguments ts n.2 in
-    cc
-number_head head.Function ts e = not_both false e refl
-number_head head.Tuple ts e = not_both false e refl
-
-pub number_is_int : (g : Ground) → meets Number g ≡ true → variables g ≡ [] → int_type ≡ g
-number_is_int (Made h ts) m bare = number_head h ts m
-number_is_int (Record NoField Closed) m bare = not_both false m refl
-number_is_int (Record NoField (Over r)) m bare = absurd (let e : (r ∷ []) ≡ [] = bare in cc)
-number_is_int (Record (MoreField k t fs) end) m bare = not_both false m refl
-
-module _ (a : Frame) (bare : Stands a) where
-  pub standing_number : (g : Ground) → meets Number g ≡ true → meets Number (substitute a.stands g) ≡ true
-  standing_number g m =
-      let k : Kind = record { class = Number; lacks = [] } in
-      and_left (meets Number (substitute a.stands g)) true (fits_kept a.stands bare.kinds k g (and_both (meets Number g) true m refl))
-
-  standing_lacks : (x : Name) (g : Ground) → lacks x g ≡ true → lacks x (substitute a.stands g) ≡ true
-  standing_lacks x g l =
-      let k : Kind = record { class = Any; lacks = x ∷ [] } in
-      let h = fits_kept a.stands bare.kinds k g (and_both (meets Any g) (lacks x g && true) (meets_any g) (and_both (lacks x g) true l refl)) in
-      and_left (lacks x (substitute a.stands g)) true (and_right (meets Any (substitute a.stands g)) (lacks x (substitute a.stands g) && true) h)
+branches_typed : (W : World) (bs : Branches) (S : Scope) (a : Frame) (here : Pos) (p : Place) (i : ℕ) (t w : Wanted) → SimpleBranches W bs → Stands a → S.known ≡ W.known
+    → Solves a.values (branch_items bs S here p i t w) → AllByRecursion (IsPatternOf W (of a t)) (branch_patterns bs)
+branches_typed W NoBranch S a here p i t w simple bare same sol = tt
+branches_typed W (MoreBranch q e bs) S a here p i t w simple bare same sol =
+    let is = pattern_items q S.known here (child (child p i) 0) t in
+    let js = items e (bind_pattern q (child (child p i) 0) t S) here (child (child p i) 1) w in
+    let ks = branch_items bs S here p (i + 1) t w in (
+      pattern_typed W q S.known a here (child (child p i) 0) t simple.0 bare same (solves_left a is (js ++ ks) sol),
+      branches_typed W bs S a here p (i + 1) t w simple.2 bare same (solves_right a js ks (solves_right a is (js ++ ks) sol)),
+    )
 
 module _ (W : World) (steps : StepsKeepTypes W) where
   abbrev Good : End Value → Ground → Type 0
@@ -162,17 +162,187 @@ module _ (W : World) (steps : StepsKeepTypes W) where
   branch_good q v env Unsafe go others bs U inner a g is fits h rest = inl tt
   branch_good q v env Stuck go others bs U inner a g is fits h rest = absurd fits
 
-  all_checked : (U : Ref → Bool) (fs : Functions) → SimpleFunctions W fs → Without U (used_functions fs) → AllChecked W U fs
-  all_checked U NoFunction simple free = tt
-  all_checked U (MoreFunction title qs e fs) simple free = (
-    record { checked = simple.1; free = all_left (λ x. U x ≡ false) (used e) (used_functions fs) free },
-    all_checked U fs simple.2 (all_right (λ x. U x ≡ false) (used e) (used_functions fs) free),
+  -- ---- the definitions of a `let`
+
+  titled_named : (title : Title) (uses : List Ref) (list : Scope → Place → Wanted → List Item) → Named W.known (titled title uses list)
+  titled_named title uses list = record {
+    mono = λ known p v. tt;
+    inside = λ known p v y k e. (v, ap (λ b. cond b (Some (Mono v)) None) (one_among title.name y e));
+    outside = λ known p v y e. ap (λ b. cond b (Some (Mono v)) None) (not_among title.name y e);
+  }
+    where
+      not_among : (x y : Ref) → among y (x ∷ []) ≡ false → same_ref y x ≡ false
+      not_among x y e = go (same_ref y x) e
+        where
+          go : (b : Bool) → (if b then true else false) ≡ false → b ≡ false
+          go true f = f
+          go false f = f
+
+  abbrev destructured : Pattern → Expr → Definition
+  destructured q e =
+      let start = pattern_start nowhere q in record {
+        names = bound_by q;
+        place = start;
+        annotation = None;
+        uses = used e;
+        list = λ scope p v. pattern_items q scope.known start (child p 0) v ++ items e scope start (child p 1) v;
+        types = λ known p v. pattern_names q known (child p 0) v [];
+      }
+
+  functions_named : (fs : Functions) → AllNamed W.known (function_definitions fs)
+  functions_named NoFunction = tt
+  functions_named (MoreFunction title qs e fs) = (titled_named title (used e) (λ scope p v. function_items qs (items e) scope title.place p v), functions_named fs)
+
+  group_named : (g : Group) → SimpleGroup W g → AllNamed W.known (group_definitions g)
+  group_named (Together fs) simple = functions_named fs
+  group_named (Constant title e) simple = (titled_named title (used e) (λ scope p v. function_items NoPattern (items e) scope title.place p v), tt)
+  group_named (Destructure q e) simple = (
+    record {
+      mono = λ known p v. names_mono q known (child p 0) v [] tt;
+      inside = λ known p v y k own. names_has W steps q simple.0.0 known (child p 0) v [] y k own;
+      outside = λ known p v y other. names_skip q known (child p 0) v [] y other;
+    },
+    tt,
   )
 
-  abbrev function_definition : Title → Patterns → Expr → Definition
-  function_definition title qs e = titled title (used e) (λ scope p v. function_items qs (items e) scope title.place p v)
+  all_append : (P : Definition → Type 0) (xs ys : List Definition) → AllByRecursion P xs → AllByRecursion P ys → AllByRecursion P (xs ++ ys)
+  all_append P [] ys h k = k
+  all_append P (x ∷ xs) ys h k = (h.0, all_append P xs ys h.1 k)
 
-  module _ (call : Call) (ok : CallOk call) where
+  definitions_named : (gs : Groups) → SimpleGroups W gs → AllNamed W.known (definitions gs)
+  definitions_named NoGroup simple = tt
+  definitions_named (MoreGroup g gs) simple = all_append (Named W.known) (group_definitions g) (definitions gs) (group_named g simple.0) (definitions_named gs simple.1)
+
+  record IsLet (ds : List Definition) (S : Scope) (p : Place) (a : Frame) : Type 0 where
+    known : S.known ≡ W.known
+    named : AllNamed W.known ds
+    apart : AreApart ds
+    stands : Stands a
+    solves : Solves a.values (list_definitions ds S p).items
+
+  -- what is hidden before these groups are bound
+  abbrev later : Groups → (Ref → Bool) → Ref → Bool
+  later gs U y = defines (definitions gs) y || U y
+
+  without_or : (h k : Ref → Bool) (xs : List Ref) → Without h xs → Without k xs → Without (λ y. h y || k y) xs
+  without_or h k [] a b = tt
+  without_or h k (x ∷ xs) a b = (or_not (h x) (k x) a.0 b.0, without_or h k xs a.1 b.1)
+
+  rest_earlier : (g : Group) (gs : Groups) → UseEarlier (MoreGroup g gs) → UseEarlier gs
+  rest_earlier (Together fs) gs h = h.1
+  rest_earlier (Constant title e) gs h = h.1
+  rest_earlier (Destructure q e) gs h = h.1
+
+  hides_not : (fs : Functions) (h : Ref → Bool) (y : Ref) → hides fs h y ≡ false → (defines (function_definitions fs) y ≡ false) × (h y ≡ false)
+  hides_not NoFunction h y n = (refl, n)
+  hides_not (MoreFunction title qs e fs) h y n =
+      let r = hides_not fs (or_named title.name h) y n in
+      let o = not_or (same_ref y title.name) (h y) r.1 in
+      (or_not (among y (title.name ∷ [])) (defines (function_definitions fs) y) (among_one title.name y o.0) r.0, o.1)
+
+  -- a parameter that leaves nothing out
+  taken_here : (q : Pattern) (v : Value) (env : Env) (S : Scope) (a : Frame) (here : Pos) (p : Place) (t : Wanted) → IsPattern W q → Takes q → Stands a → S.known ≡ W.known
+      → Solves a.values (pattern_items q S.known here p t) → Has W v (of a t) → matches q v env ≡ Val None → ⊥
+  taken_here q v env S a here p t proper takes bare same sol has e =
+      steps.taken (q ∷ []) v (of a t) env (pattern_typed W q S.known a here p t proper bare same sol, tt) takes has (e, tt)
+
+  -- a destructured value, which has its type at every stage
+  module _ (q : Pattern) (e : Expr) (gs : Groups) (env : Env) (ds : List Definition) (U : Ref → Bool) (S : Scope) (a : Frame) (p : Place) (ok : IsLet ds S p a)
+      (inside : (d : Definition) → Among d (definitions (MoreGroup (Destructure q e) gs)) → Among d ds) (simple : IsPattern W q × Takes q)
+      (f : Fits W env (later (MoreGroup (Destructure q e) gs) U) (Last W ds S p a) a) (v : Value)
+      (typed : (k : ℕ) (r : Place) (g : Frame) → AtStage (let_stages W ds S p a (later (MoreGroup (Destructure q e) gs) U)) k r g → Among (destructured q e) (group_at (Hs W ds S p a) k)
+      → (place : Place) (u : Wanted) → Solves g.values ((destructured q e).list ((let_stages W ds S p a (later (MoreGroup (Destructure q e) gs) U)).scopes k r) place u) → Has W v (of g u)) where
+    abbrev stages : Stages
+    stages = let_stages W ds S p a (later (MoreGroup (Destructure q e) gs) U)
+
+    abbrev last : Scope
+    last = Last W ds S p a
+
+    abbrev d : Definition
+    d = destructured q e
+
+    abbrev start : Pos
+    start = pattern_start nowhere q
+
+    abbrev c : Covered W ds S p a ok.known ok.named ok.apart ok.stands ok.solves (later (MoreGroup (Destructure q e) gs) U) (destructured q e)
+    c = covered W ds S p a ok.known ok.named ok.apart ok.stands ok.solves (later (MoreGroup (Destructure q e) gs) U) (destructured q e) (inside (destructured q e) (inl refl))
+
+    patterns : (k : ℕ) (r : Place) (g : Frame) (place : Place) (u : Wanted) → Solves g.values (d.list (stages.scopes k r) place u)
+        → Solves g.values (pattern_items q (stages.scopes k r).known start (child place 0) u)
+    patterns k r g place u solved =
+        solves_left g (pattern_items q (stages.scopes k r).known start (child place 0) u) (items e (stages.scopes k r) start (child place 1) u) solved
+
+    known_at : (k : ℕ) (r : Place) → (stages.scopes k r).known ≡ S.known
+    known_at k r = (stage_wider W.known (Hs W ds S p a) (T W ds S p a) p 0 a (later (MoreGroup (Destructure q e) gs) U) k r).known ∙ (last_alike (Hs W ds S p a) (T W ds S p a)).known
+
+    well : EndsWell (IfMatched (λ inner. Fits W inner (stages.hidden c.stage) (bind_pattern q (child c.place 0) c.type (stages.scopes c.stage c.at_place)) a)) (matches q v env)
+    well =
+        match_good W steps (stages.hidden c.stage) a ok.stands q simple.0 v env (stages.scopes c.stage c.at_place) start (child c.place 0) c.type
+        (patterns c.stage c.at_place a c.place c.type c.solves) (typed c.stage c.at_place a c.at_stage c.member c.place c.type c.solves)
+        (stage_fits W ds S p a ok.known ok.named ok.apart ok.stands ok.solves (later (MoreGroup (Destructure q e) gs) U) env c.stage c.at_place a c.at_stage f)
+
+    -- the names have their types at each stage
+    bound : (b : Binds q v) (k : ℕ) (r : Place) (g : Frame) → AtStage stages k r g → Among d (group_at (Hs W ds S p a) k) → (place : Place) (t : Wanted)
+        → Solves g.values (d.list (stages.scopes k r) place t) → (x : Ref) (u : Wanted) → among x (bound_by q) ≡ true → at_name x (d.types S.known place t) ≡ Some (Mono u)
+        → EndsWell (λ w. Has W w (of g u)) (lookup x (bind_all b.binds Nil))
+    bound b k r g st m place t solved x u own named =
+        binds_typed W steps q simple.0 v b S.known start (child place 0) t g x u ok.known st.stands
+        (subst (λ n. Solves g.values (pattern_items q n start (child place 0) t)) (known_at k r) (patterns k r g place t solved))
+        (typed k r g st m place t solved) own named
+
+    serves : (b : Binds q v) (x : Ref) (w : Value) → later gs U x ≡ false → lookup x (bind_all b.binds Nil) ≡ Val w → (entry : Entry) → entry_of last x ≡ Some entry
+        → Serves (λ g. Has W w g) entry last a
+    serves b x w n is entry found = elim (yes_or_no (among x (bound_by q))) [
+      | inl own ↦ serve W ds S p a ok.known ok.named ok.apart ok.stands ok.solves (later (MoreGroup (Destructure q e) gs) U) d x (λ g. Has W w g) (inside d (inl refl)) own
+          (λ note none known place u. (let z : None ≡ Some note = none in absurd cc))
+          (λ k r g st m place t solved u named. subst (λ o. EndsWell (λ z. Has W z (of g u)) o) is (bound b k r g st m place t solved x u own named)) entry found
+      | inr other ↦ (let z : Stuck ≡ Val w = sym (b.leaves x other Nil) ∙ is in absurd cc)
+    ]
+
+    shown : (b : Binds q v) (y : Ref) → hide_binds b.binds (later gs U) y ≡ false → later (MoreGroup (Destructure q e) gs) U y ≡ false
+    shown b y n =
+        let r = hide_lookup b.binds (later gs U) y n in
+        let m = not_or (defines (definitions gs) y) (U y) r.0 in
+        or_not (defines (definitions (MoreGroup (Destructure q e) gs)) y) (U y) (or_not (among y (bound_by q)) (defines (definitions gs) y) (elim (yes_or_no (among y (bound_by q))) [
+          | inl own ↦ (let t = names_has W steps q simple.0 S.known (child c.place 0) c.type [] y ok.known own in
+              absurd (subst (λ o. EndsWell (λ w. Has W w (of a t.0)) o) (r.1 Nil) (bound b c.stage c.at_place a c.at_stage c.member c.place c.type c.solves y t.0 own t.1)))
+          | inr other ↦ other
+        ]) m.0) m.1
+
+    end_good : (o : End (Option Env)) → matches q v env ≡ o
+        → EndsWell (IfMatched (λ inner. Fits W inner (stages.hidden c.stage) (bind_pattern q (child c.place 0) c.type (stages.scopes c.stage c.at_place)) a)) o
+        → EndsWell (λ inner. Fits W inner (later gs U) last a) (on_match o (λ inner. Val inner) Stuck)
+    end_good (Val None) is ends =
+        absurd (taken_here q v env (stages.scopes c.stage c.at_place) a start (child c.place 0) c.type simple.0 simple.1 ok.stands (known_at c.stage c.at_place ∙ ok.known)
+        (patterns c.stage c.at_place a c.place c.type c.solves) (typed c.stage c.at_place a c.at_stage c.member c.place c.type c.solves) is)
+    end_good (Val (Some inner)) is ends =
+        let b = match_binds q v env inner is in
+        let z : Val (Some (bind_all b.binds env)) ≡ Val (Some inner) = sym (b.matched env) ∙ is in
+        let same : bind_all b.binds env ≡ inner = cc in
+        subst (λ x. Fits W x (later gs U) last a) same
+        (fits_binds W last a b.binds env (later gs U) (serves b)
+        (fits_shown W env (later (MoreGroup (Destructure q e) gs) U) (hide_binds b.binds (later gs U)) last a (shown b) (agree_refl last a) f))
+    end_good (Crashed t) is ends = tt
+    end_good OutOfFuel is ends = tt
+    end_good Unsafe is ends = tt
+    end_good Stuck is ends = absurd ends
+
+    destructure_good : EndsWell (λ inner. Fits W inner (later gs U) (Last W ds S p a) a) (on_match (matches q v env) (λ inner. Val inner) Stuck)
+    destructure_good = end_good (matches q v env) refl well
+
+  -- what is hidden before these declarations are bound
+  abbrev unbound : List Declaration → (Ref → Bool) → Ref → Bool
+  unbound ds U y = defines (definitions (groups_in ds)) y || (among y (given_in ds) || U y)
+
+  given_entry : (x : Ref) (k : canon.Known) (g : GivenServes W x k) (S : Scope) → S.names ≡ [] → S.known ≡ W.known → entry_of S x ≡ Some (Instance g.scheme)
+  given_entry x k g S empty same =
+      ap (λ ns. option_or (entry_at (same_ref x) ns) (elsewhere S.known x)) empty
+      ∙ (ap (elsewhere S.known) g.name_is ∙ ap (λ o. option_map (λ s. Instance s) o) (ap (λ z. z g.home g.name) same ∙ g.known_is))
+
+  abbrev AllServed : Type 0
+  AllServed = (x : Ref) (k : canon.Known) → IsConstructor W x k ⊎ IsRecordMaker W x k → GivenServes W x k
+
+  module _ (call : Call) (calls : CallOk call) where
     mutual
       eval_good : (e : Expr) (env : Env) (U : Ref → Bool) (S : Scope) (a : Frame) (here : Pos) (p : Place) (w : Wanted) → Simple W e → Stands a → Without U (used e) → Fits W env U S a
           → Solves a.values (items e S here p w) → Good (eval_with call e env) (of a w)
@@ -187,7 +357,7 @@ module _ (W : World) (steps : StepsKeepTypes W) where
           let r = of a (at (child p 0)) in
           let t = of a (at place) in
           let rest = extend (MoreField x (at place) NoField) (at (child p 0)) in
-          let k = steps.getter x r t (standing_lacks a bare x (value a.values (at (child p 0))) sol.0) in
+          let k = steps.getter x r t (standing_lacks a bare x (child p 0) sol.0) in
           let row : of a rest ≡ extend (MoreField x t NoField) r =
           ap (substitute a.stands) (substitute_extend (leaf_value a.values) (MoreField x (at place) NoField) (at (child p 0)))
           ∙ substitute_extend a.stands (MoreField x (value a.values (at place)) NoField) (value a.values (at (child p 0))) in
@@ -211,7 +381,8 @@ module _ (W : World) (steps : StepsKeepTypes W) where
             patterns = solves_left a patterns body sol.1;
             body = solves_right a patterns body sol.1;
             is = sym (of_functions a ts (at (child p 1))) ∙ up a (functions ts (at (child p 1))) w sol.0;
-            is_checked = record { checked = simple; free = free };
+            some = simple.0;
+            is_checked = record { checked = (simple.1, simple.2); free = free };
           }
       eval_good (Apply g es) env U S a here p w simple bare free f sol =
           let ts = children (child p 1) (count_exprs es) in
@@ -251,14 +422,23 @@ module _ (W : World) (steps : StepsKeepTypes W) where
           (eval_good y env U S a here (child p 1) u simple.1 bare (all_right (λ x. U x ≡ false) (used x) (used y) free) f (solves_right a is js sol.1)) in
           decided op v (eval_with call y env) (of a w) (subst (λ g. Has W v g) (sym et) has) own right)
       eval_good (Let gs e) env U S a here p w simple bare free f sol =
-          let listed = list_groups (singles gs) S (child p 0) 0 in
-          let same : list_definitions (definitions gs) S (child p 0) ≡ listed =
-          ap (λ ns. list_groups (type_groups (in_written_order (definitions gs))) (with_names ns S) (child p 0) 0) (simple.1 S.constants) ∙ ap (λ ds. list_groups ds S (child p 0) 0) simple.0 in
-          let sol2 : Solves a.values (listed.items ++ items e listed.scope here (child p 1) w) = subst (λ l. Solves a.values (l.items ++ items e l.scope here (child p 1) w)) same sol in
-          then_well (λ inner. Fits W inner U listed.scope a) (λ v. Has W v (of a w)) (bind_with call gs env) (λ inner. eval_with call e inner)
-          (bind_good gs env U S a (child p 0) 0 simple.2 bare (all_left (λ x. U x ≡ false) (used_groups gs) (used e) free) f (solves_left a listed.items (items e listed.scope here (child p 1) w) sol2))
-          (λ inner g. eval_good e inner U listed.scope a here (child p 1) w simple.3 bare (all_right (λ x. U x ≡ false) (used_groups gs) (used e) free) g
-          (solves_right a listed.items (items e listed.scope here (child p 1) w) sol2))
+          let ds = definitions gs in
+          let listed = list_definitions ds S (child p 0) in
+          let last = Last W ds S (child p 0) a in
+          let same : listed.scope ≡ last = listed_scope (Hs W ds S (child p 0) a) (T W ds S (child p 0) a) (child p 0) 0 in
+          let ok : IsLet ds S (child p 0) a = record {
+            known = fits_known W env U S a f;
+            named = definitions_named gs simple.2;
+            apart = simple.0;
+            stands = bare;
+            solves = solves_left a listed.items (items e listed.scope here (child p 1) w) sol;
+          } in
+          let body : Solves a.values (items e last here (child p 1) w) =
+          subst (λ R. Solves a.values (items e R here (child p 1) w)) same (solves_right a listed.items (items e listed.scope here (child p 1) w) sol) in
+          then_well (λ inner. Fits W inner U last a) (λ v. Has W v (of a w)) (bind_with call gs env) (λ inner. eval_with call e inner)
+          (bind_good gs env ds U S a (child p 0) ok (λ d m. m) simple.2 simple.1 (all_left (λ x. U x ≡ false) (used_groups gs) (used e) free)
+          (fits_start W ds S (child p 0) a ok.known ok.named env U f))
+          (λ inner g. eval_good e inner U last a here (child p 1) w simple.3 bare (all_right (λ x. U x ≡ false) (used_groups gs) (used e) free) g body)
       eval_good (Case e bs) env U S a here p w simple bare free f sol =
           let t = at (child p 0) in
           let is = items e S here (child p 0) t in
@@ -267,54 +447,75 @@ module _ (W : World) (steps : StepsKeepTypes W) where
           (eval_good e env U S a here (child p 0) t simple.0 bare (all_left (λ x. U x ≡ false) (used e) (used_branches bs) free) f (solves_left a is js sol)) (λ v has.
           elim (choose_good bs v env U S a here (child p 1) 0 t w simple.1 bare (all_right (λ x. U x ≡ false) (used e) (used_branches bs) free) f (solves_right a is js sol) has) as (λ _. Good (choose_with call bs v env) (of a w)) [
             | inl good ↦ good
-            | inr passed ↦ absurd (simple.2 v env passed)
+            | inr passed ↦ absurd (steps.taken (branch_patterns bs) v (of a t) env (branches_typed W bs S a here (child p 1) 0 t w simple.1 bare (fits_known W env U S a f) (solves_right a is js sol)) simple.2 has passed)
           ])
       eval_good (Located pos e) env U S a here p w simple bare free f sol = eval_good e env U S a pos p w simple bare free f sol
 
-      bind_good : (gs : Groups) (env : Env) (U : Ref → Bool) (S : Scope) (a : Frame) (p : Place) (i : ℕ) → SimpleGroups W gs → Stands a → Without U (used_groups gs) → Fits W env U S a
-          → Solves a.values (list_groups (singles gs) S p i).items → EndsWell (λ inner. Fits W inner U (list_groups (singles gs) S p i).scope a) (bind_with call gs env)
-      bind_good NoGroup env U S a p i simple bare free f sol = f
-      bind_good (MoreGroup g gs) env U S a p i simple bare free f sol =
-          let l = list_group (group_definitions g) S (child p i) in
-          let rest = list_groups (singles gs) l.scope p (i + 1) in
-          then_well (λ inner. Fits W inner U l.scope a) (λ inner. Fits W inner U rest.scope a) (group_with call g env) (λ inner. bind_with call gs inner)
-          (group_good g env U S a (child p i) simple.0 bare (all_left (λ x. U x ≡ false) (used_group g) (used_groups gs) free) f (solves_left a l.items rest.items sol))
-          (λ inner h. bind_good gs inner U l.scope a p (i + 1) simple.1 bare (all_right (λ x. U x ≡ false) (used_group g) (used_groups gs) free) h (solves_right a l.items rest.items sol))
+      bind_good : (gs : Groups) (env : Env) (ds : List Definition) (U : Ref → Bool) (S : Scope) (a : Frame) (p : Place) → IsLet ds S p a → ((d : Definition) → Among d (definitions gs) → Among d ds)
+          → SimpleGroups W gs → UseEarlier gs → Without U (used_groups gs) → Fits W env (later gs U) (Last W ds S p a) a
+          → EndsWell (λ inner. Fits W inner U (Last W ds S p a) a) (bind_with call gs env)
+      bind_good NoGroup env ds U S a p ok inside simple earlier free f = f
+      bind_good (MoreGroup g gs) env ds U S a p ok inside simple earlier free f =
+          let last = Last W ds S p a in
+          then_well (λ inner. Fits W inner (later gs U) last a) (λ inner. Fits W inner U last a) (group_with call g env) (λ inner. bind_with call gs inner)
+          (group_good g gs env ds U S a p ok inside simple.0 earlier (all_left (λ x. U x ≡ false) (used_group g) (used_groups gs) free) f)
+          (λ inner h. bind_good gs inner ds U S a p ok (λ d m. inside d (among_append d (group_definitions g) (definitions gs) m)) simple.1 (rest_earlier g gs earlier)
+          (all_right (λ x. U x ≡ false) (used_group g) (used_groups gs) free) h)
 
-      group_good : (g : Group) (env : Env) (U : Ref → Bool) (S : Scope) (a : Frame) (p : Place) → SimpleGroup W g → Stands a → Without U (used_group g) → Fits W env U S a
-          → Solves a.values (list_group (group_definitions g) S p).items → EndsWell (λ inner. Fits W inner U (list_group (group_definitions g) S p).scope a) (group_with call g env)
-      group_good (Together NoFunction) env U S a p simple bare free f sol = group_fits_scope W NoFunction env U S a tt f
-      group_good (Together (MoreFunction title qs e fs)) env U S a p simple bare free f sol =
-          let d = function_definition title qs e in
-          let same : list_as title.annotation d (function_definitions fs) S p ≡ list_as None d (function_definitions fs) S p = ap (λ o. list_as o d (function_definitions fs) S p) simple.0 in
-          subst (λ l. Fits W (BindGroup (MoreFunction title qs e fs) env) U l.scope a) (sym same)
-          (group_fits_scope W (MoreFunction title qs e fs) env U S a (all_checked U (MoreFunction title qs e fs) simple free) f)
-      group_good (Constant title e) env U S a p simple bare free f sol =
-          let d = function_definition title NoPattern e in
-          let T = with_group (d ∷ []) S in
-          let same : list_as title.annotation d [] S p ≡ list_as None d [] S p = ap (λ o. list_as o d [] S p) simple.0 in
-          let one : (q : Place) (g : Frame) → Stands g → Agree S a g → Solves g.values (group_items (d ∷ []) S q) → Good (eval_with call e env) (of g (at (child q 0))) =
-          λ q g stands agree sol2.
-          let R = with_names (group_types (d ∷ []) S.known q) S in
-          let V : Ref → Bool = or_named title.name U in
-          let list = function_items NoPattern (items e) R title.place (child q 0) (at (child q 0)) in
-          let sized = Small title.place (at (child q 0)) ∷ [] in
-          let own = solves_left g list sized (solves_left g (list ++ sized) [] sol2) in
-          let fits = fits_keep W env U V S R g
-          (λ y n. (let o = not_or (same_ref y title.name) (U y) n in (o.1, λ entry is. sym (skip y title.name (Mono (at (child q 0))) S.names (elsewhere S.known y) o.0) ∙ is)))
-          (record { known = refl; agree = λ f2 h agreed. record { types = agreed.types.1; constants = agreed.constants } }) (fits_move W env U S a g agree f) in
-          good_as (eval_with call e env) (of g (at (child (child q 0) 1))) (of g (at (child q 0))) (up g (at (child (child q 0) 1)) (at (child q 0)) own.0)
-          (eval_good e env V R g title.place (child (child q 0) 1) (at (child (child q 0) 1)) simple.2 stands (without_both title.name U (used e) simple.1 free) fits own.1) in
-          let here = one p a bare (agree_refl S a) (subst (λ l. Solves a.values l.items) same sol) in
-          subst (λ l. EndsWell (λ inner. Fits W inner U l.scope a) (then_do (eval_with call e env) (λ v. Val (Bind title.name v env)))) (sym same)
-          (then_each (λ v. Has W v (of a (at (child p 0)))) (λ inner. Fits W inner U T a) (eval_with call e env) (λ v. Val (Bind title.name v env)) here (λ v is.
-          fits_entry W env title.name v (general (d ∷ []) S title.name) S.names U S a
-          (λ q g stands agree sol2.
-          let r : Good (Val v) (of g (at (child q 0))) = subst (λ o. Good o (of g (at (child q 0)))) is
-          (one q g stands (record { types = agree.types; constants = agree.constants }) (solves_uncopied g.values (group_items (d ∷ []) S q) sol2)) in
-          subst (λ t. Has W v (of g t)) (sym (type_of_one title.name (at (child q 0)))) r)
-          (record { known = refl; agree = λ f2 h agree. record { types = agree.types; constants = agree.constants } }) f refl))
-      group_good (Destructure q e) env U S a p simple bare free f sol = absurd simple
+      group_good : (g : Group) (gs : Groups) (env : Env) (ds : List Definition) (U : Ref → Bool) (S : Scope) (a : Frame) (p : Place) → IsLet ds S p a
+          → ((d : Definition) → Among d (definitions (MoreGroup g gs)) → Among d ds) → SimpleGroup W g → UseEarlier (MoreGroup g gs) → Without U (used_group g)
+          → Fits W env (later (MoreGroup g gs) U) (Last W ds S p a) a → EndsWell (λ inner. Fits W inner (later gs U) (Last W ds S p a) a) (group_with call g env)
+      group_good (Together fs) gs env ds U S a p ok inside simple earlier free f =
+          let last = Last W ds S p a in
+          let V = later gs U in
+          functions_fit W ds S p a ok.known ok.named ok.apart ok.stands ok.solves V fs env (λ d m. inside d (among_front d (function_definitions fs) (definitions gs) m)) simple
+          (without_or (defines (definitions gs)) U (used_functions fs) earlier.0 free)
+          (fits_shown W env (later (MoreGroup (Together fs) gs) U) (hides fs V) last a (λ y n.
+          let o = hides_not fs V y n in
+          let m = not_or (defines (definitions gs) y) (U y) o.1 in
+          or_not (defines (definitions (MoreGroup (Together fs) gs)) y) (U y) (defines_append (function_definitions fs) (definitions gs) y o.0 m.0) m.1) (agree_refl last a) f)
+      group_good (Constant title e) gs env ds U S a p ok inside simple earlier free f =
+          let last = Last W ds S p a in
+          let V = later (MoreGroup (Constant title e) gs) U in
+          let stages = let_stages W ds S p a V in
+          let list : Scope → Place → Wanted → List Item = λ scope q v. function_items NoPattern (items e) scope title.place q v in
+          let d = titled title (used e) list in
+          let free_v : Without V (used e) = without_or (defines (definitions (MoreGroup (Constant title e) gs))) U (used e) earlier.0 free in
+          let typed : (k : ℕ) (q : Place) (g : Frame) → AtStage stages k q g → Among d (group_at (Hs W ds S p a) k) → (place : Place) (v : Wanted)
+          → Solves g.values (list (stages.scopes k q) place v) → Good (eval_with call e env) (of g v) =
+          λ k q g st m place v solved. good_as (eval_with call e env) (of g (at (child place 1))) (of g v) (up g (at (child place 1)) v solved.0)
+          (eval_good e env (stages.hidden k) (stages.scopes k q) g title.place (child place 1) (at (child place 1)) simple st.stands
+          (stage_free W ds S p a ok.known ok.named ok.apart ok.stands ok.solves V k d m free_v)
+          (stage_fits W ds S p a ok.known ok.named ok.apart ok.stands ok.solves V env k q g st f) solved.1) in
+          let c = covered W ds S p a ok.known ok.named ok.apart ok.stands ok.solves V d (inside d (inl refl)) in
+          then_each (λ v. Has W v (of a c.type)) (λ inner. Fits W inner (later gs U) last a) (eval_with call e env) (λ v. Val (Bind title.name v env))
+          (typed c.stage c.at_place a c.at_stage c.member c.place c.type c.solves) (λ v is. (
+            λ n entry found. serve W ds S p a ok.known ok.named ok.apart ok.stands ok.solves V d title.name (λ t. Has W v t) (inside d (inl refl)) (title_own W ds S p a ok.known ok.named ok.apart ok.stands ok.solves V title)
+                (title_noted W ds S p a ok.known ok.named ok.apart ok.stands ok.solves V title (used e) list) (λ k q g st m place u solved t named_t.
+                subst (λ x. Has W v (of g x)) (one_type_of W ds S p a ok.known ok.named ok.apart ok.stands ok.solves V title.name u t named_t)
+                (subst (λ o. Good o (of g u)) is (typed k q g st m place u solved))) entry found,
+            fits_shown W env V (or_named title.name (later gs U)) last a (λ y n.
+                let o = not_or (same_ref y title.name) (later gs U y) n in
+                let m = not_or (defines (definitions gs) y) (U y) o.1 in
+                or_not (defines (definitions (MoreGroup (Constant title e) gs)) y) (U y) (or_not (among y (title.name ∷ [])) (defines (definitions gs) y) (among_one title.name y o.0) m.0) m.1) (agree_refl last a) f,
+          ))
+      group_good (Destructure q e) gs env ds U S a p ok inside simple earlier free f =
+          let last = Last W ds S p a in
+          let V = later (MoreGroup (Destructure q e) gs) U in
+          let stages = let_stages W ds S p a V in
+          let start = pattern_start nowhere q in
+          let d = destructured q e in
+          let free_v : Without V (used e) = without_or (defines (definitions (MoreGroup (Destructure q e) gs))) U (used e) earlier.0 free in
+          let typed : (k : ℕ) (r : Place) (g : Frame) → AtStage stages k r g → Among d (group_at (Hs W ds S p a) k) → (place : Place) (v : Wanted)
+          → Solves g.values (d.list (stages.scopes k r) place v) → Good (eval_with call e env) (of g v) =
+          λ k r g st m place v solved. eval_good e env (stages.hidden k) (stages.scopes k r) g start (child place 1) v simple.1 st.stands
+          (stage_free W ds S p a ok.known ok.named ok.apart ok.stands ok.solves V k d m free_v)
+          (stage_fits W ds S p a ok.known ok.named ok.apart ok.stands ok.solves V env k r g st f)
+          (solves_right g (pattern_items q (stages.scopes k r).known start (child place 0) v) (items e (stages.scopes k r) start (child place 1) v) solved) in
+          let c = covered W ds S p a ok.known ok.named ok.apart ok.stands ok.solves V d (inside d (inl refl)) in
+          then_each (λ v. Has W v (of a c.type)) (λ inner. Fits W inner (later gs U) last a) (eval_with call e env) (λ v. on_match (matches q v env) (λ inner. Val inner) Stuck)
+          (typed c.stage c.at_place a c.at_stage c.member c.place c.type c.solves)
+          (λ v is. destructure_good q e gs env ds U S a p ok inside simple.0 f v (λ k r g st m place u solved. subst (λ o. Good o (of g u)) is (typed k r g st m place u solved)))
 
       each_good : (es : Exprs) (env : Env) (U : Ref → Bool) (S : Scope) (a : Frame) (here : Pos) (p : Place) (i : ℕ) (ts : List Wanted) → SimpleEach W es → Stands a → Without U (used_each es) → Fits W env U S a
           → Solves a.values (each_items es S here p i ts) → EndsWell (λ vs. HasEach W vs (map (of a) ts)) (evals_with call es env)
@@ -339,7 +540,7 @@ module _ (W : World) (steps : StepsKeepTypes W) where
           let js = each_items es S here p (i + 1) ts in
           then_well (λ x. Has W x (of a t)) (λ x. Has W x (of a w)) (eval_with call e env) (λ x. then_do (call v x) (λ u. apply_with call es u env))
           (eval_good e env U S a here (child p i) t simple.0 bare (all_left (λ x. U x ≡ false) (used e) (used_each es) free) f (solves_left a is js sol)) (λ x arg.
-          then_well (λ u. Has W u (functions (map (of a) ts) (of a w))) (λ u. Has W u (of a w)) (call v x) (λ u. apply_with call es u env) (ok v x (of a t) (functions (map (of a) ts) (of a w)) has arg)
+          then_well (λ u. Has W u (functions (map (of a) ts) (of a w))) (λ u. Has W u (of a w)) (call v x) (λ u. apply_with call es u env) (calls v x (of a t) (functions (map (of a) ts) (of a w)) has arg)
           (λ u rest. apply_good es u env U S a here p (i + 1) ts w simple.1 bare (all_right (λ x. U x ≡ false) (used e) (used_each es) free) f (solves_right a is js sol) rest))
 
       strict_good : (es : Exprs) (op : Op) (env : Env) (U : Ref → Bool) (S : Scope) (a : Frame) (here : Pos) (p : Place) (w : Wanted) → IsOperation W op (count_exprs es) → SimpleEach W es → Stands a → Without U (used_each es) → Fits W env U S a
@@ -376,12 +577,43 @@ module _ (W : World) (steps : StepsKeepTypes W) where
           (λ env2 g. eval_good e env2 U inner a here (child place 1) w simple.1 bare (all_left (λ x. U x ≡ false) (used e) (used_branches bs) free) g (solves_left a js ks rest))
           (choose_good bs v env U S a here p (i + 1) t w simple.2 bare (all_right (λ x. U x ≡ false) (used e) (used_branches bs) free) f (solves_right a js ks rest) has)
 
+    -- ---- the declarations of a module
+
+    declare_good : AllServed → (ds : List Declaration) (env : Env) (es : List Definition) (U : Ref → Bool) (S : Scope) (a : Frame) (p : Place) → IsLet es S p a → S.names ≡ []
+        → ((d : Definition) → Among d (definitions (groups_in ds)) → Among d es) → AreMakers W ds → UseMakersBefore ds → UseEarlier (groups_in ds) → Without (defines es) (given_in ds)
+        → SimpleGroups W (groups_in ds) → Without U (used_groups (groups_in ds)) → Fits W env (unbound ds U) (Last W es S p a) a
+        → EndsWell (λ inner. Fits W inner U (Last W es S p a) a) (declare_with call ds env)
+    declare_good served [] env es U S a p ok empty inside makers before earlier others simple free f = f
+    declare_good served (Given x k ∷ ds) env es U S a p ok empty inside makers before earlier others simple free f =
+        let last = Last W es S p a in
+        let g = served x k makers.0 in
+        then_well (Instances W g.scheme) (λ inner. Fits W inner U last a) (known (functions.Given k) NoValue) (λ v. declare_with call ds (Bind x v env)) g.ends (λ v serves.
+        declare_good served ds (Bind x v env) es U S a p ok empty inside makers.1 before earlier others.1 simple free (
+          λ n entry found.
+              let e : Instance g.scheme ≡ entry =
+              (let z : Some (Instance g.scheme) ≡ Some entry = sym (same_before W es S p a ok.known ok.named x others.0 ∙ given_entry x k g S empty ok.known) ∙ found in cc) in
+              subst (λ o. Serves (λ t. Has W v t) o last a) e (serves last a),
+          fits_shown W env (unbound (Given x k ∷ ds) U) (or_named x (unbound ds U)) last a (λ y n.
+              let o = not_or (same_ref y x) (unbound ds U y) n in
+              let m = not_or (defines (definitions (groups_in ds)) y) (among y (given_in ds) || U y) o.1 in
+              let l = not_or (among y (given_in ds)) (U y) m.1 in
+              or_not (defines (definitions (groups_in ds)) y) (among y (x ∷ given_in ds) || U y) m.0
+              (or_not (among y (x ∷ given_in ds)) (U y) (ap (λ b. if b then true else among y (given_in ds)) o.0 ∙ l.0) l.1)) (agree_refl last a) f,
+        ))
+    declare_good served (Define g ∷ ds) env es U S a p ok empty inside makers before earlier others simple free f =
+        let last = Last W es S p a in
+        then_well (λ inner. Fits W inner (unbound ds U) last a) (λ inner. Fits W inner U last a) (group_with call g env) (λ inner. declare_with call ds inner)
+        (group_good g (groups_in ds) env es (λ y. among y (given_in ds) || U y) S a p ok inside simple.0 earlier
+        (without_or (λ y. among y (given_in ds)) U (used_group g) before.0 (all_left (λ x. U x ≡ false) (used_group g) (used_groups (groups_in ds)) free)) f)
+        (λ inner h. declare_good served ds inner es U S a p ok empty (λ d m. inside d (among_append d (group_definitions g) (definitions (groups_in ds)) m)) makers before.1
+        (rest_earlier g (groups_in ds) earlier) others simple.1 (all_right (λ x. U x ≡ false) (used_group g) (used_groups (groups_in ds)) free) h)
+
   -- ---- calls
 
-  taken_good : (q : Pattern) (v : Value) (env : Env) (o : End (Option Env)) (go : Env → End Value) (U : Ref → Bool) (inner : Scope) (a : Frame) (g : Ground) → matches q v env ≡ o → Takes q
+  taken_good : (q : Pattern) (v : Value) (env : Env) (o : End (Option Env)) (go : Env → End Value) (U : Ref → Bool) (inner : Scope) (a : Frame) (g : Ground) → matches q v env ≡ o → (matches q v env ≡ Val None → ⊥)
       → EndsWell (IfMatched (λ env2. Fits W env2 U inner a)) o → ((env2 : Env) → Fits W env2 U inner a → Good (go env2) g) → Good (on_match o go Stuck) g
   taken_good q v env (Val (Some env2)) go U inner a g is takes fits h = h env2 fits
-  taken_good q v env (Val None) go U inner a g is takes fits h = absurd (takes v env is)
+  taken_good q v env (Val None) go U inner a g is takes fits h = absurd (takes is)
   taken_good q v env (Crashed t) go U inner a g is takes fits h = tt
   taken_good q v env OutOfFuel go U inner a g is takes fits h = tt
   taken_good q v env Unsafe go U inner a g is takes fits h = tt
@@ -402,7 +634,7 @@ module _ (W : World) (steps : StepsKeepTypes W) where
       let head_items = pattern_items q S.known here (child q0 i) t in
       let arg_t : Has W v (of a t) = subst (λ x. Has W v x) (sym (ap first_part is)) arg in
       let r_h : of a r ≡ h = ap second_part is in
-      taken_good q v env (matches q v env) (λ inner. does e inner) U (bind_pattern q (child q0 i) t S) a h refl checked.checked.0.takes.0
+      taken_good q v env (matches q v env) (λ inner. does e inner) U (bind_pattern q (child q0 i) t S) a h refl (taken_here q v env S a here (child q0 i) t checked.checked.0.proper.0 checked.checked.0.takes.0 bare (fits_known W env U S a f) (solves_left a head_items [] sol) arg_t)
       (match_good W steps U a bare q checked.checked.0.proper.0 v env S here (child q0 i) t (solves_left a head_items [] sol) arg_t f)
       (λ env2 fits. good_as (does e env2) (of a r) h r_h
       (ok e env2 U (bind_pattern q (child q0 i) t S) a here p r checked.checked.1 bare checked.free fits body))
@@ -413,7 +645,7 @@ module _ (W : World) (steps : StepsKeepTypes W) where
       let rest = patterns_items (MorePattern q2 qs) S.known here q0 (i + 1) ts in
       let arg_t : Has W v (of a t) = subst (λ x. Has W v x) (sym (ap first_part is)) arg in
       let inner = bind_pattern q (child q0 i) t S in
-      taken_good q v env (matches q v env) (λ env2. Val (CloV env2 (MorePattern q2 qs) e)) U inner a h refl checked.checked.0.takes.0
+      taken_good q v env (matches q v env) (λ env2. Val (CloV env2 (MorePattern q2 qs) e)) U inner a h refl (taken_here q v env S a here (child q0 i) t checked.checked.0.proper.0 checked.checked.0.takes.0 bare (fits_known W env U S a f) (solves_left a head_items rest sol) arg_t)
       (match_good W steps U a bare q checked.checked.0.proper.0 v env S here (child q0 i) t (solves_left a head_items rest sol) arg_t f)
       (λ env2 fits. record {
         hidden = U;
@@ -430,8 +662,9 @@ module _ (W : World) (steps : StepsKeepTypes W) where
         patterns = solves_right a head_items rest sol;
         body = body;
         is = ap second_part is;
+        some = refl;
         is_checked = record {
-          checked = (record { some = refl; takes = checked.checked.0.takes.1; proper = checked.checked.0.proper.1 }, checked.checked.1);
+          checked = (record { takes = checked.checked.0.takes.1; proper = checked.checked.0.proper.1 }, checked.checked.1);
           free = checked.free;
         };
       })
@@ -443,7 +676,7 @@ module _ (W : World) (steps : StepsKeepTypes W) where
   enter_good does ok (RecordV fs) v a b has arg = absurd (let e : Record has.0 Closed ≡ function a b = has.1 in cc)
   enter_good does ok (WireV w) v a b has arg = absurd has
   enter_good does ok (KnownV k vs) v a b has arg = steps.knows k vs has.0 v a b has.2 has.1 arg
-  enter_good does ok (CloV env NoPattern e) v a b has arg = not_both false has.is_checked.checked.0.some refl
+  enter_good does ok (CloV env NoPattern e) v a b has arg = not_both false has.some refl
   enter_good does ok (CloV env (MorePattern q qs) e) v a b has arg =
       closure_good does ok env q qs e v a b has.hidden has.scope has.frame has.here has.patterns_at has.first has.parameters has.body_at has.result has.stands has.fits has.patterns has.body has.is has.is_checked arg
 
@@ -456,3 +689,31 @@ module _ (W : World) (steps : StepsKeepTypes W) where
   pub expression_good : (n : ℕ) (e : Expr) (env : Env) (U : Ref → Bool) (S : Scope) (a : Frame) (here : Pos) (p : Place) (w : Wanted) → Simple W e → Stands a → Without U (used e) → Fits W env U S a
       → Solves a.values (items e S here p w) → Good (eval_with (call_at n) e env) (of a w)
   expression_good n = eval_good (call_at n) (call_good n)
+
+  -- ---- whole modules
+
+  abbrev Declares : List Definition → ℕ → List Declaration → Env → (Ref → Bool) → Scope → Frame → Place → Type 0
+  Declares es n ds env U S a p =
+      Solves a.values (list_definitions es S p).items → EndsWell (λ inner. Fits W inner U (list_definitions es S p).scope a) (declare_with (call_at n) ds env)
+
+  pub module_good : AllServed → (n : ℕ) (m : Module) (known : Known) (env : Env) (U : Ref → Bool) (a : Frame) (p : Place) → IsPlain W m
+      → Without U (used_groups (groups_in m.declarations)) → Stands a → Fits W env U (module_scope m known) a → Solves a.values (module_items m known p)
+      → EndsWell (λ inner. Fits W inner U (scope_after m known p) a) (declare_with (call_at n) m.declarations env)
+  module_good served n m known env U a p plain free bare f =
+      let S = module_scope m known in
+      let ds = m.declarations in
+      let es = definitions (groups_in ds) in
+      subst (λ z. Declares z n ds env U S a p) (sym (declared_definitions ds)) (λ sol.
+      let ok : IsLet es S p a = record {
+        known = fits_known W env U S a f;
+        named = definitions_named (groups_in ds) plain.simple;
+        apart = plain.apart;
+        stands = bare;
+        solves = sol;
+      } in
+      let last = Last W es S p a in
+      subst (λ R. EndsWell (λ inner. Fits W inner U R a) (declare_with (call_at n) ds env)) (sym (listed_scope (Hs W es S p a) (T W es S p a) p 0))
+      (declare_good (call_at n) (call_good n) served ds env es U S a p ok refl (λ d m. m) plain.makers plain.before plain.earlier plain.others plain.simple free
+      (fits_shown W env (λ y. defines es y || U y) (unbound ds U) last a (λ y o.
+      let k = not_or (defines es y) (among y (given_in ds) || U y) o in
+      or_not (defines es y) (U y) k.0 (not_or (among y (given_in ds)) (U y) k.1).1) (agree_refl last a) (fits_start W es S p a ok.known ok.named env U f))))

@@ -1,9 +1,4 @@
-pub mod Frames
-pub mod World
-pub mod Simple
-pub mod Typed
-pub mod Lookup
 pub mod Binding
-pub mod Using
-pub mod Steps
+pub mod Expressions
+pub mod Modules
 pub mod Sample

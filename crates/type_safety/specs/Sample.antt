@@ -1,72 +1,40 @@
--- A world that holds together: Bool, and a union with a parameter.
-use Rattle.std.specs.Prelude.{pos, List, [], ◌∷◌, Bool, true, false, ◌&&◌, Some, None, Option, codes, if◌then◌else◌}
-use Rattle.std.specs.Str.{bytes_eq}
-use Rattle.elm_canon.specs.Names.{Name}
-use Rattle.elm_canon.specs.declared.unions.Tag.TheVariants.{Number, Truth}
-use Rattle.elm_type.specs.Types.{Free, Scheme, variable, functions, any_kind}
-use Rattle.type_safety.specs.World.{Constructor, World, IsSound, made_type}
+-- An expression of which the law of expressions speaks: `let x = 5 in x`.
+use Rattle.std.specs.Prelude.{pos, [], Bool, true, false, None, codes}
+use Rattle.elm_base.specs.declared.position.Pos.{Pos}
+use Rattle.elm_canon.specs.declared.reference.Ref.{Ref}
+use Rattle.elm_canon.specs.declared.reference.Ref.TheVariants.{Local, Top}
+use Rattle.elm_canon.specs.declared.tree.Literal.TheVariants.{Int}
+use Rattle.elm_canon.specs.Tree.{Title, Expr, Is, NameOf, Let, NoGroup, MoreGroup, Constant}
+use Rattle.elm_meaning.specs.Values.{Nil}
+use Rattle.elm_type.specs.Types.{int_type}
+use Rattle.type_items.specs.Scopes.{Scope}
+use Rattle.type_items.specs.Uses.{used}
+use Rattle.type_items.specs.Expressions.{items}
+use Rattle.type_items.specs.Solutions.{Solves}
+use Rattle.typed_values.specs.Simple.{Without, Simple}
+use Rattle.typed_values.specs.Typed.{Fits}
+use Rattle.typed_values.specs.Sample.{sample, sample_frame}
 
-abbrev pub truth_maker : Bool → Constructor
-truth_maker b = record {
-  alternative = record { name = if b then codes "True" else codes "False"; tag = Truth b; arity = 0 };
-  fields = [];
-  arguments = [];
-}
+abbrev pub sample_place : Pos
+sample_place = record { row = 1; column = 5 }
 
-abbrev pub just_maker : Constructor
-just_maker = record {
-  alternative = record { name = codes "Just"; tag = Number (pos 0); arity = 1 };
-  fields = variable (Free 0) ∷ [];
-  arguments = 0 ∷ [];
-}
+abbrev pub sample_title : Title
+sample_title = record { name = Local (codes "x"); place = sample_place; annotation = None }
 
-abbrev pub nothing_maker : Constructor
-nothing_maker = record {
-  alternative = record { name = codes "Nothing"; tag = Number (pos 1); arity = 0 };
-  fields = [];
-  arguments = 0 ∷ [];
-}
+abbrev pub sample_expression : Expr
+sample_expression = Let (MoreGroup (Constant sample_title (Is (Int (pos 5)))) NoGroup) (NameOf (Local (codes "x")))
 
-abbrev pub sample_bools : Bool → List Constructor → List Constructor
-sample_bools b others = if b then truth_maker false ∷ truth_maker true ∷ [] else others
+abbrev pub sample_scope : Scope
+sample_scope = record { known = sample.known; names = []; constants = [] }
 
-abbrev pub sample_maybes : Bool → List Constructor
-sample_maybes b = if b then just_maker ∷ nothing_maker ∷ [] else []
+-- names of modules
+abbrev pub sample_hidden : Ref → Bool
+sample_hidden (Local x) = false
+sample_hidden (Top m x) = true
 
-abbrev pub is_bool : Name → Name → Bool
-is_bool m x = bytes_eq m (codes "Basics") && bytes_eq x (codes "Bool")
-
-abbrev pub is_maybe : Name → Name → Bool
-is_maybe m x = bytes_eq m (codes "Maybe") && bytes_eq x (codes "Maybe")
-
--- the type of a constructor, as it is known
-abbrev pub maker_scheme : Name → Name → Constructor → Scheme
-maker_scheme m x c = record { type = functions c.fields (made_type m x c); kinds = any_kind ∷ [] }
-
-abbrev pub bool_scheme : Bool → Scheme
-bool_scheme b = maker_scheme (codes "Basics") (codes "Bool") (truth_maker b)
-
-abbrev pub maybe_scheme : Constructor → Scheme
-maybe_scheme c = maker_scheme (codes "Maybe") (codes "Maybe") c
-
-abbrev pub known_bool : Name → Option Scheme
-known_bool x =
-    if bytes_eq x (codes "True") then Some (bool_scheme true)
-    else (if bytes_eq x (codes "False") then Some (bool_scheme false) else None)
-
-abbrev pub known_maybe : Name → Option Scheme
-known_maybe x =
-    if bytes_eq x (codes "Just") then Some (maybe_scheme just_maker)
-    else (if bytes_eq x (codes "Nothing") then Some (maybe_scheme nothing_maker) else None)
-
-abbrev pub sample : World
-sample = record {
-  known = λ m x.
-      if bytes_eq m (codes "Basics") then known_bool x
-      else (if bytes_eq m (codes "Maybe") then known_maybe x else None);
-  unions = λ m x. sample_bools (is_bool m x) (sample_maybes (is_maybe m x));
-}
-
--- there is a world of which the law of expressions speaks
-abbrev pub SampleIsSound : Type 0
-SampleIsSound = IsSound sample
+-- what the law asks
+pub record SampleMeets : Type 0 where
+  pub simple : Simple sample sample_expression
+  pub free : Without sample_hidden (used sample_expression)
+  pub fits : Fits sample Nil sample_hidden sample_scope sample_frame
+  pub solves : Solves sample_frame.values (items sample_expression sample_scope sample_place [] int_type)

@@ -1,16 +1,9 @@
-//! What holds of names and expressions in typed programs.
+//! What holds of expressions in typed programs.
 
-ghost use Rattle.type_safety.specs.Lookup.{FoundServes};
 ghost use Rattle.type_safety.specs.Binding.{GroupFitsScope};
-ghost use Rattle.type_safety.specs.Using.{UsesEndWell};
-ghost use Rattle.type_safety.specs.Steps.{ExpressionsKeepTypes};
-ghost use Rattle.type_safety.specs.Sample.{SampleIsSound};
-
-/// In an environment that fits a scope, each name of the scope that is not hidden is bound, and to what serves its
-/// entry.
-pub fn lookup_law()
-    ensures { FoundServes }
-{}
+ghost use Rattle.type_safety.specs.Expressions.{ExpressionsKeepTypes};
+ghost use Rattle.type_safety.specs.Modules.{ModulesKeepTypes};
+ghost use Rattle.type_safety.specs.Sample.{SampleMeets};
 
 /// Functions without annotations that were checked fit the scope with their names, where the environment around them
 /// fits the scope around them.
@@ -18,20 +11,22 @@ pub fn group_law()
     ensures { GroupFitsScope }
 {}
 
-/// Where what a use of a name asks of types is solved, the use evaluates to a value of the type that is wanted of it.
-pub fn use_law()
-    ensures { UsesEndWell }
-{}
-
 /// Where the unions of a program are as they are declared, an expression whose items are solved is not Stuck, with any
-/// fuel, and its value has the type that is wanted of it. It is said of expressions whose branches and parameters pass
-/// no value over, and whose `let`s have no annotations and no patterns, and type groups that are their value groups.
-/// Ports, dictionaries and the unit at a place of a text have no typed values.
+/// fuel, and its value has the type that is wanted of it. It is said of expressions of whose branches, parameters and
+/// destructured patterns nothing is reported missing, whose `let`s define each name once, and whose definitions use
+/// what is bound before them; and of types that name no constant that both has a class and is the rest of a record.
+/// Ports and the unit at a place of a text have no typed values.
 pub fn expression_law()
     ensures { ExpressionsKeepTypes }
 {}
 
-/// There is a world of which the law of expressions speaks: that of Bool and Maybe.
-pub fn world_law()
-    ensures { SampleIsSound }
+/// Where the items of a module without ports are solved, and what it imports is bound to what has its types, the
+/// declarations of the module are not Stuck, with any fuel, and what they bind has its types.
+pub fn module_law()
+    ensures { ModulesKeepTypes }
+{}
+
+/// There is an expression of which the law of expressions speaks: `let x = 5 in x`.
+pub fn example_law()
+    ensures { SampleMeets }
 {}

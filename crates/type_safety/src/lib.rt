@@ -1,4 +1,4 @@
-//! Typed programs: names are bound to what has their types, and expressions are not stuck and keep their types.
+//! Typed programs: expressions are not stuck and keep their types.
 #![tactic(auto)]
 
 pub mod laws;

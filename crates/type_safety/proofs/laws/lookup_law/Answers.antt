@@ -1,5 +1,0 @@
-use Rattle.type_safety.proofs.laws.lookup_law.Goals as goal
-use Rattle.type_safety.proofs.Envs.{look_good}
-
-pub returns : goal.returns
-returns c = λ w env hidden scope x entry f fits n e. look_good w env hidden scope x entry f fits n e

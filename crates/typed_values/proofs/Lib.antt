@@ -1,0 +1,23 @@
+-- names and tests
+pub mod Names
+-- environments that fit a scope
+pub mod Envs
+-- substitution, and what it keeps
+pub mod Rows
+pub mod Keeping
+pub mod Numbers
+-- uses of names
+pub mod Uses
+-- patterns
+pub mod Patterns
+-- which values there are of a type, and the steps of evaluation
+pub mod Forms
+pub mod Fields
+pub mod Unions
+pub mod Makers
+pub mod Comparing
+pub mod Calls
+pub mod Operations
+-- a world that holds together
+pub mod SampleWorld
+pub mod SampleFrame

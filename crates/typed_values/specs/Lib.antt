@@ -1,0 +1,9 @@
+pub mod Frames
+pub mod World
+pub mod Simple
+pub mod Typed
+pub mod Lookup
+pub mod Using
+pub mod Exhaustive
+pub mod Steps
+pub mod Sample
