@@ -1,0 +1,10 @@
+use Rattle.std.proofs.Common.{◌∙◌, ap, sym, take}
+use Rattle.std.proofs.lemmas.List.{take-map}
+use Rattle.type_store.specs.Steps.{undone}
+use Rattle.type_store.specs.View.{slot_view, store_view, trail_view}
+use Rattle.type_store.proofs.add.undo_all.Goals as goal
+
+pub returns-clause-slots : goal.returns-clause-slots
+returns-clause-slots c =
+    ap store_view c.truncate.ensures.items ∙ (sym (take-map slot_view c.args.count c.undo_slots.new.slots.items)
+    ∙ ap (take c.args.count) (c.undo_slots.ensures.slots ∙ ap (λ s. undone s (trail_view c.args.trail.now.items)) c.undo_slot_depths.ensures.slots))

@@ -1,0 +1,6 @@
+use Rattle.std.proofs.Common.{◌≡◌, take, false}
+use Rattle.ground_types.specs.Ground.{contains}
+use Rattle.type_store.proofs.lookup.is_in.Given as goal
+
+abbrev pub invariant-loop-other : goal.invariant-loop-other
+invariant-loop-other l = contains l.name (take l.other-index l.names) ≡ false

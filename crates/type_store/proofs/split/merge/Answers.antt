@@ -1,0 +1,39 @@
+use Rattle.std.proofs.Common.{arith, ap, drop, map, length, ◌<◌, ◌∙◌, ◌≤◌, []}
+use Rattle.std.proofs.lemmas.List.{length-map}
+use Rattle.type_store.specs.declared.slot.FieldSlot as stored
+use Rattle.type_store.specs.View.{field_view}
+use Rattle.type_store.proofs.Splitting.{first_inside, second_inside, merge_first, merge_second, merging_all, merge_is, both_have}
+use Rattle.type_store.proofs.split.merge.Goals as goal
+
+abbrev none : stored.FieldSlot
+none = record { name = []; slot = 0 }
+
+pub loop-at-preserved-in-InFirst : goal.loop-at-preserved-in-InFirst
+loop-at-preserved-in-InFirst c =
+    let l : c.loop-at.at < length c.args.first.now = first_inside c.args.first.now c.loop-at.at (drop c.loop-at.other (map field_view c.args.second.now)) c.in-InFirst.ensures in
+    record {
+      at = omega (arith, l);
+      other = c.loop-at.invariant.other;
+      rest = merge_first c.args.first.now c.args.second.now c.loop-at.at c.loop-at.other c.loop-at.merged.items c.loop-at.invariant.rest
+          c.push.new.self.items c.in_ok-copy_field-in-InFirst.field-0 c.index-first-at.result c.in-InFirst.ensures (c.in_ok-copy_field-in-InFirst.ensures ∙ ap field_view c.index-first-at.is) c.in_ok-push-in-InFirst.ensures.items;
+    }
+
+pub loop-at-preserved : goal.loop-at-preserved
+loop-at-preserved c =
+    let l : c.loop-at.other < length c.args.second.now = second_inside c.args.second.now c.loop-at.other (drop c.loop-at.at (map field_view c.args.first.now)) c.in-InSecond.ensures in
+    record {
+      at = c.loop-at.invariant.at;
+      other = omega (arith, l);
+      rest = merge_second c.args.first.now c.args.second.now c.loop-at.at c.loop-at.other c.loop-at.merged.items c.loop-at.invariant.rest
+          c.push-in-InSecond.new.self.items c.in_ok-copy_field-in-InSecond.field-0 c.index-second-other.result c.in-InSecond.ensures (c.in_ok-copy_field-in-InSecond.ensures ∙ ap field_view c.index-second-other.is) c.in_ok-push-in-InSecond.ensures.items;
+    }
+
+pub returns-in-InBoth : goal.returns-in-InBoth
+returns-in-InBoth c = both_have c.args.first.now c.args.second.now c.loop-at.at c.loop-at.other none none c.in-InBoth.ensures
+
+pub returns : goal.returns
+returns c =
+    let a : length (map field_view c.args.first.now) ≤ c.loop-at.at = omega (arith, length-map c.args.first.now field_view, c.if-at-first.false) in
+    let b : length (map field_view c.args.second.now) ≤ c.loop-at.other = omega (arith, length-map c.args.second.now field_view, c.if-other-second.false) in
+    merge_is (map field_view c.args.first.now) (map field_view c.args.second.now) (map field_view c.loop-at.merged.items) c.requires.first_rises c.requires.second_rises
+    (merging_all (map field_view c.args.first.now) (map field_view c.args.second.now) c.loop-at.at c.loop-at.other (map field_view c.loop-at.merged.items) a b c.loop-at.invariant.rest)

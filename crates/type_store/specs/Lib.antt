@@ -1,0 +1,14 @@
+pub mod Store
+pub mod Solutions
+pub mod Shape
+pub mod Steps
+pub mod Ends
+pub mod View
+pub mod Laws
+pub mod Reaching
+pub mod Cycles
+pub mod Levels
+pub mod Finish
+pub mod Spreading
+pub mod Adding
+pub mod Insides
