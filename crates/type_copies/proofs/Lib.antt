@@ -1,0 +1,4 @@
+pub mod Cells
+pub mod Thawing
+pub mod Generalising
+pub mod Saying

@@ -1,0 +1,4 @@
+//! Annotated definitions: the constants of an annotation while its definition is walked, and after it.
+#![tactic(auto)]
+
+pub mod laws;

@@ -1,0 +1,4 @@
+pub mod Stepping
+pub mod RowTypes
+pub mod Making
+pub mod Reaching

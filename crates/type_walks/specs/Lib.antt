@@ -1,0 +1,5 @@
+pub mod Regions
+pub mod Links
+pub mod Walks
+pub mod Progress
+pub mod Laws
