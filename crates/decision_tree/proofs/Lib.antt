@@ -1,0 +1,11 @@
+pub mod Lists
+pub mod Asking
+pub mod Marks
+pub mod Sizes
+pub mod Columns
+pub mod Narrowing
+pub mod Splitting
+pub mod Looking
+pub mod Branching
+pub mod Chains
+pub mod Doing

@@ -1,0 +1,95 @@
+-- What is left of rows.
+use Rattle.std.proofs.Common.{◌≡◌, ℕ, zero, suc, ◌<◌, ◌≤◌, List, [], ◌∷◌, ◌++◌, length, take, drop, get_or, refl, sym, ap, ◌∙◌}
+use Rattle.std.proofs.Common.{arith, map, ◌+◌, append_assoc, Option, Some, None, option_map}
+use Rattle.elm_canon.specs.Tree.{Pattern}
+use Rattle.js_emit.specs.Matrix.{Ask, Nothing, ask, ask_at, in_place, after_one, narrowed}
+use Rattle.decision_tree.specs.Views.{part_view, parts_view}
+use Rattle.decision_tree.specs.declared.part.Part.{Part}
+use Rattle.decision_tree.proofs.Lists.{map_at}
+use Rattle.std.proofs.lemmas.List.{length-map, map-append, take-map, drop-map}
+
+-- with what is left of the column in its place
+abbrev pub placed : ℕ → List Pattern → List Pattern → List Pattern
+placed column ps qs = take column ps ++ (qs ++ drop (suc column) ps)
+
+after_placed : (p : Pattern) (column : ℕ) (ps : List Pattern) (left : Option (List Pattern))
+    → after_one p (option_map (placed column ps) left) ≡ option_map (placed (suc column) (p ∷ ps)) left
+after_placed p column ps None = refl
+after_placed p column ps (Some qs) = refl
+
+first_placed : (p : Pattern) (ps : List Pattern) (left : Option (List Pattern))
+    → in_place left ps ≡ option_map (placed 0 (p ∷ ps)) left
+first_placed p ps None = refl
+first_placed p ps (Some qs) = refl
+
+pub narrowed_at : (left : Ask → Option (List Pattern)) (column : ℕ) (ps : List Pattern) (d : Pattern) → column < length ps
+    → narrowed left column ps ≡ option_map (placed column ps) (left (ask (get_or ps column d)))
+narrowed_at left column [] d h = absurd (omega (arith, h))
+narrowed_at left zero (p ∷ ps) d h = first_placed p ps (left (ask p))
+narrowed_at left (suc column) (p ∷ ps) d h =
+    ap (after_one p) (narrowed_at left column ps d (omega (arith, h)))
+    ∙ after_placed p column ps (left (ask (get_or ps column d)))
+
+pub narrowed_past : (left : Ask → Option (List Pattern)) (column : ℕ) (ps : List Pattern) → length ps ≤ column
+    → narrowed left column ps ≡ Some ps
+narrowed_past left column [] h = refl
+narrowed_past left zero (p ∷ ps) h = absurd (omega (arith, h))
+narrowed_past left (suc column) (p ∷ ps) h = ap (after_one p) (narrowed_past left column ps (omega (arith, h)))
+
+pub ask_inside : (column : ℕ) (ps : List Pattern) (d : Pattern) → column < length ps
+    → ask_at column ps ≡ ask (get_or ps column d)
+ask_inside column [] d h = absurd (omega (arith, h))
+ask_inside zero (p ∷ ps) d h = refl
+ask_inside (suc column) (p ∷ ps) d h = ask_inside column ps d (omega (arith, h))
+
+pub ask_past : (column : ℕ) (ps : List Pattern) → length ps ≤ column → ask_at column ps ≡ Nothing
+ask_past column [] h = refl
+ask_past zero (p ∷ ps) h = absurd (omega (arith, h))
+ask_past (suc column) (p ∷ ps) h = ask_past column ps (omega (arith, h))
+
+-- ---- of the parts of the program
+
+pub ask_here : (ps : List Part) (column : ℕ) (x : Part) → column < length ps → get_or ps column x ≡ x
+    → ask_at column (parts_view ps) ≡ ask (part_view x)
+ask_here ps column x h at =
+    ask_inside column (parts_view ps) (part_view x) (omega (arith, h, length-map ps part_view))
+    ∙ ap ask (map_at part_view ps column x (part_view x) h at)
+
+pub ask_none : (ps : List Part) (column : ℕ) → length ps ≤ column → ask_at column (parts_view ps) ≡ Nothing
+ask_none ps column h = ask_past column (parts_view ps) (omega (arith, h, length-map ps part_view))
+
+pub narrowed_here : (left : Ask → Option (List Pattern)) (ps : List Part) (column : ℕ) (x : Part) → column < length ps
+    → get_or ps column x ≡ x
+    → narrowed left column (parts_view ps)
+    ≡ option_map (λ qs. take column (parts_view ps) ++ (qs ++ drop (suc column) (parts_view ps))) (left (ask (part_view x)))
+narrowed_here left ps column x h at =
+    narrowed_at left column (parts_view ps) (part_view x) (omega (arith, h, length-map ps part_view))
+    ∙ ap (λ p. option_map (placed column (parts_view ps)) (left (ask p))) (map_at part_view ps column x (part_view x) h at)
+
+pub narrowed_none : (left : Ask → Option (List Pattern)) (ps : List Part) (column : ℕ) → length ps ≤ column
+    → narrowed left column (parts_view ps) ≡ Some (parts_view ps)
+narrowed_none left ps column h =
+    narrowed_past left column (parts_view ps) (omega (arith, h, length-map ps part_view))
+
+-- by what is left of the column
+pub narrow_law : (left : Ask → Option (List Pattern)) (ps : List Part) (column : ℕ) (x : Part) (a : Ask)
+    (o : Option (List Pattern)) → column < length ps → get_or ps column x ≡ x → a ≡ ask (part_view x) → o ≡ left a
+    → narrowed left column (parts_view ps)
+    ≡ option_map (λ qs. take column (parts_view ps) ++ (qs ++ drop (suc column) (parts_view ps))) o
+narrow_law left ps column x a o h at asks leaves =
+    narrowed_here left ps column x h at
+    ∙ ap (option_map (placed column (parts_view ps))) (sym (leaves ∙ ap left asks))
+
+pub replaced_parts : (ps : List Part) (column : ℕ) (inner : List Pattern) (e1 e2 e3 : List Part)
+    → e1 ≡ take column ps → parts_view e2 ≡ parts_view e1 ++ inner → e3 ≡ e2 ++ drop (column + 1) ps
+    → parts_view e3 ≡ take column (parts_view ps) ++ (inner ++ drop (suc column) (parts_view ps))
+replaced_parts ps column inner e1 e2 e3 first second third =
+    let next : column + 1 ≡ suc column = omega arith in
+    let after = parts_view (drop (column + 1) ps) in
+    ap parts_view third
+    ∙ (map-append part_view e2 (drop (column + 1) ps)
+    ∙ (ap (λ us. us ++ after) (second ∙ ap (λ us. parts_view us ++ inner) first)
+    ∙ (append_assoc (parts_view (take column ps)) inner after
+    ∙ (ap (λ us. us ++ (inner ++ after)) (sym (take-map part_view column ps))
+    ∙ ap (λ us. take column (parts_view ps) ++ (inner ++ us))
+    (ap (λ n. parts_view (drop n ps)) next ∙ sym (drop-map part_view (suc column) ps))))))

@@ -1,0 +1,103 @@
+-- The column that is tested, and what is still to be done for a tree.
+use Rattle.std.specs.Prelude.{ℕ, zero, suc, ◌+◌, ◌-◌, ◌<◌, ⊤, pos, List, [], ◌∷◌, drop, get_or, length, Option}
+use Rattle.js_tree.specs.Tree.{Js, JInt, JConditional}
+use Rattle.js_tree.specs.Postorder.{Tree, Expression, top, below, expression}
+use Rattle.js_emit.specs.Matrix as matrix
+use Rattle.js_emit.specs.Matrix.{arity_of, left_by, left_over, narrow, tests_in, is_whole}
+use Rattle.js_emit.specs.Choice.{Column, one_further, first_column, split_path, test_js, tree, chain}
+use Rattle.decision_tree.specs.Views.{test_view, tests_view, rows_view, path_view, paths_view}
+use Rattle.decision_tree.specs.declared.split.Matrix.{Matrix}
+use Rattle.decision_tree.specs.declared.split.Chain.{Chain}
+use Rattle.decision_tree.specs.declared.split.Found.{Found}
+use Rattle.decision_tree.specs.declared.split.Look.{Look}
+use Rattle.decision_tree.specs.declared.split.Look.TheVariants as look
+use Rattle.decision_tree.specs.declared.path.Path.{Path}
+use Rattle.decision_tree.specs.declared.choice.Task.{Task}
+use Rattle.decision_tree.specs.declared.choice.Task.TheVariants as task
+
+-- ---- the column that is tested
+
+abbrev pub further_by : ℕ → Option Column → Option Column
+further_by zero c = c
+further_by (suc n) c = one_further (further_by n c)
+
+-- the column that was found, among these paths
+abbrev pub found_view : ℕ → List Path → Found → Column
+found_view subject paths f = record {
+  number = f.number;
+  test = test_view f.test;
+  path = get_or (paths_view subject paths) f.number (JInt (pos 0));
+}
+
+-- ---- what is to be done
+
+abbrev pub matrix_js : ℕ → Matrix → Js
+matrix_js subject m = tree m.bound (paths_view subject m.paths.items) (rows_view m.rows.items)
+
+-- by the column that is tested
+abbrev pub split_tree : ℕ → List Js → List matrix.Row → Column → Js
+split_tree bound paths rows c =
+    let ts = tests_in c.test c.number [] rows in
+    chain (λ t. tree (bound - 1) (split_path (arity_of t) c.number paths) (narrow (left_by t) c.number rows))
+    c.path (is_whole c.test ts) (tree (bound - 1) (split_path 0 c.number paths) (narrow left_over c.number rows)) ts
+
+abbrev pub split_js : ℕ → Matrix → Column → Js
+split_js subject m c = split_tree m.bound (paths_view subject m.paths.items) (rows_view m.rows.items) c
+
+abbrev pub look_js : ℕ → Matrix → Look → Js
+look_js subject m (look.Number n) = JInt (pos n)
+look_js subject m (look.Split f) = split_js subject m (found_view subject m.paths.items f)
+
+-- where the test holds
+abbrev pub chosen_js : ℕ → Chain → matrix.Test → Js
+chosen_js subject c t =
+    tree c.bound (split_path (arity_of t) c.column (paths_view subject c.paths.items))
+    (narrow (left_by t) c.column (rows_view c.rows.items))
+
+-- where no test does
+abbrev pub rest_js : ℕ → Chain → Js
+rest_js subject c =
+    tree c.bound (split_path 0 c.column (paths_view subject c.paths.items))
+    (narrow left_over c.column (rows_view c.rows.items))
+
+abbrev pub chain_js : ℕ → Chain → Js
+chain_js subject c =
+    chain (chosen_js subject c) (path_view subject c.path) c.is_whole (rest_js subject c)
+    (drop c.next (tests_view c.tests.items))
+
+abbrev pub joined : List Tree → List Tree
+joined ts =
+    Expression (JConditional (expression (top (below (below ts)))) (expression (top (below ts))) (expression (top ts)))
+    ∷ below (below (below ts))
+
+abbrev pub done : ℕ → Task → List Tree → List Tree
+done subject (task.Choose m) ts = Expression (matrix_js subject m) ∷ ts
+done subject (task.Try c) ts = Expression (chain_js subject c) ∷ ts
+done subject task.Join ts = joined ts
+
+-- all tasks, the last first
+abbrev pub all_done : ℕ → List Task → List Tree → List Tree
+all_done subject [] ts = ts
+all_done subject (t ∷ tasks) ts = done subject t (all_done subject tasks ts)
+
+-- a column is split only where one test at least may be made
+abbrev pub CanSplit : Matrix → Look → Type 0
+CanSplit m (look.Number n) = ⊤
+CanSplit m (look.Split f) = (0 < m.bound) × (f.number < length m.paths.items)
+
+-- the chain after its next test
+abbrev pub advanced : Chain → Chain
+advanced c = record {
+  bound = c.bound;
+  paths = c.paths;
+  rows = c.rows;
+  column = c.column;
+  path = c.path;
+  is_whole = c.is_whole;
+  tests = c.tests;
+  next = c.next + 1;
+}
+
+-- what comes after a test: where it holds, then the others, and then the choice
+abbrev pub left_tasks : Chain → Matrix → List Task
+left_tasks c m = task.Join ∷ task.Try (advanced c) ∷ task.Choose m ∷ []
