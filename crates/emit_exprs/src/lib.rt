@@ -1,0 +1,4 @@
+//! The JavaScript of expressions.
+#![tactic(auto)]
+
+pub mod exprs;

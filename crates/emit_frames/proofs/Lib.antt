@@ -1,0 +1,2 @@
+-- one part more
+mod Steps

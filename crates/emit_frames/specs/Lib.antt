@@ -1,0 +1,2 @@
+-- fields, tests and constants
+pub mod Frames
