@@ -7,19 +7,20 @@ use Rattle.type_store.specs.Shape.{IsCell, IsStore, parts_of}
 use Rattle.type_store.specs.Solutions.{Becomes, Clash}
 use Rattle.type_store.specs.Steps.{put, rest_asks}
 use Rattle.type_store.specs.Levels.{IsLowered, IsLevelled}
-use Rattle.type_store.specs.Adding.{IsReady, Settled, NoDeeper}
+use Rattle.type_store.specs.Adding.{IsReady, Settled}
+use Rattle.type_store.specs.Reaching.{GoesOnAt}
 use Rattle.type_store.specs.declared.slot.Slot as kept
 use Rattle.type_store.specs.declared.ask.Ask as stored
 use Rattle.type_store.specs.View.{store_view, work_view}
 use Rattle.type_store.proofs.Undoing.{length_view}
 use Rattle.type_store.proofs.Joins.{cell_moved}
 use Rattle.type_store.proofs.Making.{made_whole}
-use Rattle.type_store.proofs.Rowing.{row_ready, row_becomes, row_clashes, row_depths}
+use Rattle.type_store.proofs.Rowing.{row_ready, row_becomes, row_clashes, row_goes}
 
 pub did_built : (items new : List kept.Slot) (h : Head) (ws : List ℕ) (d : ℕ) → IsStore (store_view items) → All (λ w. w < length items) ws
     → IsLowered (store_view items ++ put (Built h ws) d ∷ []) (store_view new) → IsLevelled (store_view new) → IsStore (store_view new)
 did_built items new h ws d whole inside low level =
-    made_whole (store_view items) (Built h ws) d whole (subst (λ n. All (λ w. w < n) ws) (sym (length_view items)) inside) (store_view new) tt (refl, tt) low level
+    made_whole (store_view items) (Built h ws) d whole (subst (λ n. All (λ w. w < n) ws) (sym (length_view items)) inside) (λ r e. absurd (cc)) (store_view new) tt (refl, tt) low level
 
 pub row_cell : (n : ℕ) (fs : List FieldSlot) (end : Option ℕ) → IsCell 0 (Row fs end) → IsCell n (Row fs end)
 row_cell n fs end = cell_moved 0 n (Row fs end) refl
@@ -46,6 +47,6 @@ module _ (items new : List kept.Slot) (fs : List FieldSlot) (end : Option ℕ) (
   pub did_row_clash : Clash (store_view new) (work_view work) → Clash (store_view items) (rest_asks end (field_names fs))
   did_row_clash c = row_clashes (store_view items) fs end d whole inside_view cell_view_at (store_view new) low (subst (Clash (store_view new)) asks_are c)
 
-  pub did_row_depths : (last : List kept.Slot) → Settled (store_view new) (work_view work) (store_view last) → NoDeeper (store_view items) (store_view last)
-  did_row_depths last r =
-      row_depths (store_view items) fs end d whole inside_view cell_view_at (store_view new) low (store_view last) (subst (λ as_. Settled (store_view new) as_ (store_view last)) asks_are r)
+  pub did_row_goes : (last : List kept.Slot) → Settled (store_view new) (work_view work) (store_view last) → GoesOnAt d (store_view items) (store_view last)
+  did_row_goes last r =
+      row_goes (store_view items) fs end d whole inside_view cell_view_at (store_view new) low (store_view last) (subst (λ as_. Settled (store_view new) as_ (store_view last)) asks_are r)

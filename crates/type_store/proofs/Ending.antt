@@ -1,5 +1,5 @@
 -- What is left of two rows: what the ends become.
-use Rattle.std.proofs.Common.{◌≡◌, ◌≢◌, ℕ, ◌+◌, ◌<◌, List, [], ◌∷◌, ◌++◌, length, map, set, true, false, inl, inr, Option, Some, None, refl, sym, ap, ◌∙◌, subst, arith, All, Contains}
+use Rattle.std.proofs.Common.{◌≡◌, ◌≢◌, ℕ, ◌+◌, ◌<◌, ◌≤◌, List, [], ◌∷◌, ◌++◌, length, map, set, true, false, inl, inr, Option, Some, None, refl, sym, ap, ◌∙◌, subst, arith, All, Contains}
 use Rattle.std.proofs.lemmas.List.{length-set, length_push, append_assoc, append-nil}
 use Rattle.std.proofs.lemmas.List.Elements.{All-head, All-cons, All-nil, All-append, All-weaker}
 use Rattle.type_store.specs.Store.{FieldSlot, Cell, Open, Bound, Built, Row, Constant, Slot, Store, slot_at, field_names, field_slots, end_slots}
@@ -14,6 +14,11 @@ use Rattle.type_store.specs.declared.slot.FieldSlot as stored_field
 use Rattle.type_store.specs.View.{field_view}
 use Rattle.type_store.proofs.Turns.{Which, Yes, Not, which, slot_same, slot_pushed, slot_before, slot_other, all_left, all_right, lacks_to_asks}
 use Rattle.type_store.proofs.OneSlot.{retold, retold_before, says_at}
+use Rattle.std.specs.Prelude.{min}
+use Rattle.std.proofs.lemmas.Bool.{cases_lt}
+use Rattle.std.proofs.lemmas.List.Elements.{Contains-push}
+use Rattle.type_store.specs.Reaching.{SameLow, KeepsConstants, LowRestsBut}
+use Rattle.type_store.proofs.Resting.{cell_parts, all_cells, constants_itself, constants_set, constants_made, constants_chained, rests_kept}
 use Rattle.type_store.proofs.Keeping.{keeps_chained, keeps_put, keeps_more, each_more, each_kept, each_set, each_made, depths_itself, depths_set, depths_made, depths_chained}
 use Rattle.type_store.proofs.RowSpreads.{Within, within_left, within_right, keeps_within, keeps_again, row_spread}
 use Rattle.type_store.proofs.Graphs.{graph_set, kinds_inside}
@@ -37,6 +42,8 @@ ended_turned s t before after L R e g p = record {
   graph = p.graph;
   spread = p.spread;
   depths = p.depths;
+  constants = p.constants;
+  rests = p.rests;
 }
 
 pub never_turned : (s : Store) (L R : List FieldSlot) (e g : Option ℕ) → NoEnds s L R e g → NoEnds s R L g e
@@ -53,6 +60,8 @@ ended_none s before g = record {
   graph = g;
   spread = λ h. h;
   depths = depths_itself s;
+  constants = constants_itself s;
+  rests = rests_kept s s [] refl (depths_itself s);
 }
 
 pub ended_same : (s : Store) (before after : List Ask) (x y : ℕ) → IsGraph s → x < length s → y < length s → after ≡ before ++ Same x y ∷ [] → Ended s before [] [] (Some x) (Some y) s after
@@ -64,6 +73,8 @@ ended_same s before after x y g lx ly w = record {
   graph = g;
   spread = λ h. subst (EachSpread s) (sym w) (each_more s before (Same x y ∷ []) h);
   depths = depths_itself s;
+  constants = constants_itself s;
+  rests = rests_kept s s (Same x y ∷ []) refl (depths_itself s);
 }
 
 -- ---- where a row ends lacks the names of its fields
@@ -115,6 +126,8 @@ module _ (s : Store) (before mid after : List Ask) (fs : List FieldSlot) (g : Op
             (keeps_put s x (slot_at s x).depth (Row fs g) before l) (keeps_more with_row (before ++ own_kind) end_lacks))
             (row_spread with_row (before ++ own_kind ++ end_lacks) fs g (within_right (before ++ own_kind) end_lacks)) h);
         depths = depths_set s x row_slot l refl;
+        constants = constants_set s x row_slot l (λ k z. absurd (cc));
+        rests = rests_kept s with_row (own_kind ++ end_lacks) (length-set s x row_slot) (depths_set s x row_slot l refl);
       }
 
 -- ---- a variable more
@@ -271,9 +284,53 @@ module _ (s : Store) (L R : List FieldSlot) (x y d : ℕ) (g : IsGraph s) (diffe
         (depths_chained s one two (omega (arith, longer)) (depths_made s (put Open d)) (depths_set one x (put (Row R (Some (length s))) dx) lx_one refl))
         (depths_set two y (put (Row L (Some (length s))) dy) ly_two refl)
 
-    pub ended_both : (one_more mid lower after : List Ask) → one_more ≡ before ++ kind_asks x (slot_at s x).kind → mid ≡ one_more ++ kind_asks y (slot_at s y).kind
+    constants_both : KeepsConstants s three
+    constants_both = constants_chained s two three
+        (constants_chained s one two (constants_made s (put Open d) (λ k z. (cc))) (constants_set one x (put (Row R (Some (length s))) dx) lx_one (λ k z. absurd (cc))))
+        (constants_set two y (put (Row L (Some (length s))) dy) ly_two (λ k z. absurd (cc)))
+
+    -- the new variable is as deep as one of those that lead to it
+    cell_there : (v : ℕ) → IsCell v (slot_at three v).cell
+    cell_there = all_cells three graph_three
+
+    end_named : (fs : List FieldSlot) → Contains (field_slots fs ++ end_slots (Some (length s))) (length s)
+    end_named fs = Contains-push (field_slots fs) (length s)
+
+    rests_both : d ≡ min (slot_at s x).depth (slot_at s y).depth → (left : List Ask) (e : ℕ) → LowRestsBut e s three left
+    rests_both least left e = record {
+      same = λ σ τ f g p q low. same_there σ τ f g low;
+    }
+      where
+        same_new : (σ τ : Values) → Fit σ three → Fit τ three → SameLow e s σ τ → d ≤ e → σ.types (length s) ≡ τ.types (length s)
+        same_new σ τ f g low deep = elim (cases_lt e (slot_at s x).depth) [
+          | inl m ↦ cell_parts three σ τ f g y (Row L (Some (length s))) (length s) (subst (IsCell y) cell_y (cell_there y))
+              (says_at σ three y (Row L (Some (length s))) cell_y f) (says_at τ three y (Row L (Some (length s))) cell_y g)
+              (low y ly (omega (arith, m, deep, least))) (end_named L)
+          | inr m ↦ cell_parts three σ τ f g x (Row R (Some (length s))) (length s) (subst (IsCell x) cell_x (cell_there x))
+              (says_at σ three x (Row R (Some (length s))) cell_x f) (says_at τ three x (Row R (Some (length s))) cell_x g)
+              (low x lx m) (end_named R)
+        ]
+
+        new_deep : (slot_at three (length s)).depth ≡ d
+        new_deep =
+            ap (λ (k : Slot). k.depth) (slot_other two y (length s) (put (Row L (Some (length s))) dy) (λ z. omega (arith, z, ly))
+            ∙ (slot_other one x (length s) (put (Row R (Some (length s))) dx) (λ z. omega (arith, z, lx)) ∙ slot_pushed s (put Open d)))
+
+        same_there : (σ τ : Values) → Fit σ three → Fit τ three → SameLow e s σ τ → SameLow e three σ τ
+        same_there σ τ f g low v l deep = go (which v (length s))
+          where
+            go : Which v (length s) → σ.types v ≡ τ.types v
+            go (Yes z) =
+                let h : (slot_at three v).depth ≡ d = ap (λ u. (slot_at three u).depth) z ∙ new_deep in
+                subst (λ u. σ.types u ≡ τ.types u) (sym z) (same_new σ τ f g low (omega (arith, h, deep)))
+            go (Not n) =
+                let there : v < length s = omega (arith, l, n, three_length) in
+                let h = depths_both v there in
+                low v there (omega (arith, h, deep))
+
+    pub ended_both : d ≡ min (slot_at s x).depth (slot_at s y).depth → (one_more mid lower after : List Ask) → one_more ≡ before ++ kind_asks x (slot_at s x).kind → mid ≡ one_more ++ kind_asks y (slot_at s y).kind
         → lower ≡ mid ++ rest_asks (Some (length s)) (field_names R) → after ≡ lower ++ rest_asks (Some (length s)) (field_names L) → Ended s before L R (Some x) (Some y) three after
-    ended_both one_more mid lower after w v u t =
+    ended_both least one_more mid lower after w v u t =
         let rx = rest_asks (Some (length s)) (field_names R) in
         let ry = rest_asks (Some (length s)) (field_names L) in
         let kinds : mid ≡ before ++ both_kinds = v ∙ (ap (λ xs. xs ++ kind_asks y (slot_at s y).kind) w ∙ append_assoc before (kind_asks x (slot_at s x).kind) (kind_asks y (slot_at s y).kind)) in
@@ -289,6 +346,8 @@ module _ (s : Store) (L R : List FieldSlot) (x y d : ℕ) (g : IsGraph s) (diffe
           graph = graph_three;
           spread = λ h. subst (EachSpread three) (sym is) (spread_both h);
           depths = depths_both;
+          constants = constants_both;
+          rests = rests_both least (both_kinds ++ both_lacks);
         }
 
 -- ---- no solution makes the ends the same
@@ -345,17 +404,17 @@ did_take s new before mid after fs g x c graph l o k r e f w v =
 
 pub did_both : (s m t new : Store) (L R : List FieldSlot) (x y z d : ℕ) (before one_more mid lower after : List Ask) → IsGraph s → x ≢ y → x < length s → y < length s
     → (slot_at s x).cell ≡ Open → (slot_at s y).cell ≡ Open → 0 < length L → 0 < length R → IsRest s L (Some x) → IsRest s R (Some y) → NoneIn (field_names L) (field_names R)
-    → z ≡ length s → m ≡ s ++ put Open d ∷ [] → t ≡ set m x (put (Row R (Some z)) (slot_at m x).depth) → new ≡ set t y (put (Row L (Some z)) (slot_at t y).depth)
+    → d ≡ min (slot_at s x).depth (slot_at s y).depth → z ≡ length s → m ≡ s ++ put Open d ∷ [] → t ≡ set m x (put (Row R (Some z)) (slot_at m x).depth) → new ≡ set t y (put (Row L (Some z)) (slot_at t y).depth)
     → one_more ≡ before ++ kind_asks x (slot_at s x).kind → mid ≡ one_more ++ kind_asks y (slot_at s y).kind
     → lower ≡ mid ++ rest_asks (Some z) (field_names R) → after ≡ lower ++ rest_asks (Some z) (field_names L) → Ended s before L R (Some x) (Some y) new after
-did_both s m t new L R x y z d before one_more mid lower after g n lx ly ox oy sl sr left right apart ez em et en w v u k =
+did_both s m t new L R x y z d before one_more mid lower after g n lx ly ox oy sl sr left right apart least ez em et en w v u k =
     let second : (m : Store) (z : ℕ) → Store = λ m z. set m x (put (Row R (Some z)) (slot_at m x).depth) in
     let third : (t : Store) (z : ℕ) → Store = λ t z. set t y (put (Row L (Some z)) (slot_at t y).depth) in
     let made = s ++ put Open d ∷ [] in
     let is : new ≡ third (second made (length s)) (length s) =
     en ∙ (ap (λ t. third t z) (et ∙ ap (λ m. second m z) em) ∙ ap (λ z. third (second made z) z) ez) in
     subst (λ q. Ended s before L R (Some x) (Some y) q after) (sym is)
-    (ended_both s L R x y d g n lx ly ox oy sl sr left right apart before one_more mid lower after w v
+    (ended_both s L R x y d g n lx ly ox oy sl sr left right apart before least one_more mid lower after w v
     (u ∙ ap (λ z. mid ++ rest_asks (Some z) (field_names R)) ez) (k ∙ ap (λ z. lower ++ rest_asks (Some z) (field_names L)) ez))
 
 pub no_fields : (fs : List stored_field.FieldSlot) → length fs ≡ 0 → map field_view fs ≡ []

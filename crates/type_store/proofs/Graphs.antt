@@ -21,6 +21,7 @@ use Rattle.type_store.proofs.Lacking.{lacks_in}
 use Rattle.type_store.proofs.RowsMeet.{and_left, and_right}
 use Rattle.type_store.specs.Spreading.{EachSpread}
 use Rattle.type_store.proofs.Keeping.{depths_set, depths_itself}
+use Rattle.type_store.proofs.Resting.{constants_set, constants_itself, rests_kept}
 use Rattle.type_store.proofs.KindSpreads.{class_spread, class_needless, lack_spread, lack_needless}
 
 pub graph_set : (s : Store) (v : ℕ) (slot : Slot) → v < length s → IsGraph s → All (λ w. w < length s) (parts_of slot.cell) → IsCell v slot.cell → IsGraph (set s v slot)
@@ -177,6 +178,8 @@ module _ (s : Store) (v : ℕ) (c : Class) (g : IsGraph s) (l : v < length s) wh
         graph = kind_kept s v k l g;
         spread = λ e. subst (EachSpread t) (sym w) (class_spread s v c before left d l m q e);
         depths = depths_set s v (with_kind (slot_at s v) k) l refl;
+        constants = constants_set s v (with_kind (slot_at s v) k) l (λ r z. z);
+        rests = rests_kept s t left (length-set s v (with_kind (slot_at s v) k)) (depths_set s v (with_kind (slot_at s v) k) l refl);
       }
 
   pub class_there : (before after : List Ask) → is_below (slot_at s v).kind.class c ≡ true → after ≡ before → Stepped s before (InClass v c ∷ []) s after
@@ -188,6 +191,8 @@ module _ (s : Store) (v : ℕ) (c : Class) (g : IsGraph s) (l : v < length s) wh
     graph = g;
     spread = λ e. subst (EachSpread s) (sym w) (class_needless s v c before b e);
     depths = depths_itself s;
+    constants = constants_itself s;
+    rests = rests_kept s s [] refl (depths_itself s);
   }
 
 -- ---- a field that a variable lacks
@@ -259,6 +264,8 @@ module _ (s : Store) (v : ℕ) (x : Name) (g : IsGraph s) (l : v < length s) whe
         graph = kind_kept s v k l g;
         spread = λ e. subst (EachSpread t) (sym w) (lack_spread s v x before left l q e);
         depths = depths_set s v (with_kind (slot_at s v) k) l refl;
+        constants = constants_set s v (with_kind (slot_at s v) k) l (λ r z. z);
+        rests = rests_kept s t left (length-set s v (with_kind (slot_at s v) k)) (depths_set s v (with_kind (slot_at s v) k) l refl);
       }
 
   pub lack_there : (before after : List Ask) → contains x (slot_at s v).kind.lacks ≡ true → after ≡ before → Stepped s before (Lacks v x ∷ []) s after
@@ -270,4 +277,6 @@ module _ (s : Store) (v : ℕ) (x : Name) (g : IsGraph s) (l : v < length s) whe
     graph = g;
     spread = λ e. subst (EachSpread s) (sym w) (lack_needless s v x before b e);
     depths = depths_itself s;
+    constants = constants_itself s;
+    rests = rests_kept s s [] refl (depths_itself s);
   }

@@ -11,6 +11,8 @@ use Rattle.type_store.proofs.OneSlot.{same_roots, same_turned, second_open, same
 use Rattle.type_store.proofs.Graphs.{graph_set, kinds_inside, row_fields}
 use Rattle.type_store.specs.Spreading.{EachSpread}
 use Rattle.type_store.proofs.Keeping.{each_less, each_more, each_bound, each_taken, depths_set, depths_chained}
+use Rattle.type_store.specs.Reaching.{KeepsConstants, LowRestsBut}
+use Rattle.type_store.proofs.Resting.{constants_set, constants_taken, rests_kept}
 
 pub low_not : (a b : ℕ) → a < b → a ≢ b
 low_not a b l e = omega arith
@@ -45,6 +47,13 @@ module _ (s : Store) (a b : ℕ) (low : a < b) (l : b < length s) (g : IsGraph s
   first_there : a < length s
   first_there = omega arith
 
+  bound_constants : (d : ℕ) → KeepsConstants s (set s b (put (Bound a) d))
+  bound_constants d = constants_set s b (put (Bound a) d) l (λ r z. absurd (cc))
+
+  bound_rests : (d : ℕ) → d ≡ (slot_at s b).depth → (left : List Ask) (e : ℕ) → LowRestsBut e s (set s b (put (Bound a) d)) left
+  bound_rests d deep left =
+      rests_kept s (set s b (put (Bound a) d)) left (length-set s b (put (Bound a) d)) (depths_set s b (put (Bound a) d) l deep)
+
   same_alike : (d : ℕ) (c k : Cell) → (slot_at s a).cell ≡ c → (slot_at s b).cell ≡ k → Alike c k → Becomes s (Same a b ∷ []) (set s b (put (Bound a) d)) (kind_asks b (slot_at s b).kind)
   same_alike d (Constant r) (Constant t) e f h = same_constant s a b d r (low_not a b low) l e (f ∙ ap Constant (sym h))
   same_alike d (Constant r) Open e f h = absurd h
@@ -66,6 +75,8 @@ module _ (s : Store) (a b : ℕ) (low : a < b) (l : b < length s) (g : IsGraph s
     graph = graph_bound s a b d low l g;
     spread = λ e. subst (EachSpread (set s b (put (Bound a) d))) (sym w) (each_bound s before b a d l (each_less s before a b e));
     depths = depths_set s b (put (Bound a) d) l deep;
+    constants = bound_constants d;
+    rests = bound_rests d deep (kind_asks b (slot_at s b).kind);
   }
 
   pub joined_take : (d e : ℕ) → d ≡ (slot_at s a).depth → e ≡ (slot_at s b).depth → (before mid after : List Ask) → (slot_at s a).cell ≡ Open → is_bound (slot_at s b).cell ≡ false
@@ -90,6 +101,12 @@ module _ (s : Store) (a b : ℕ) (low : a < b) (l : b < length s) (g : IsGraph s
         depths = depths_chained s t (set t b (put (Bound a) e)) (omega (arith, length-set s a (put (slot_at s b).cell d)))
             (depths_set s a (put (slot_at s b).cell d) first_there deep)
             (depths_set t b (put (Bound a) e) lt (low_deep ∙ sym (ap (λ (x : Slot). x.depth) (other_kept s a b (put (slot_at s b).cell d) low))));
+        constants = constants_taken s a b d e low l first_there lt;
+        rests = rests_kept s (set t b (put (Bound a) e)) (kind_asks a (slot_at s a).kind ++ kind_asks b (slot_at s b).kind)
+            (length-set t b (put (Bound a) e) ∙ length-set s a (put (slot_at s b).cell d))
+            (depths_chained s t (set t b (put (Bound a) e)) (omega (arith, length-set s a (put (slot_at s b).cell d)))
+            (depths_set s a (put (slot_at s b).cell d) first_there deep)
+            (depths_set t b (put (Bound a) e) lt (low_deep ∙ sym (ap (λ (x : Slot). x.depth) (other_kept s a b (put (slot_at s b).cell d) low)))));
       }
 
   built_parts : (d : ℕ) (c k : Cell) → (slot_at s a).cell ≡ c → (slot_at s b).cell ≡ k → BothBuilt c k
@@ -121,6 +138,8 @@ module _ (s : Store) (a b : ℕ) (low : a < b) (l : b < length s) (g : IsGraph s
             let one : EachSpread s mid = subst (EachSpread s) (sym w) (each_more s before (sames ks ws) (each_less s before a b e)) in
             subst (EachSpread (set s b (put (Bound a) d))) (sym v) (each_bound s mid b a d l one);
         depths = depths_set s b (put (Bound a) d) l deep;
+        constants = bound_constants d;
+        rests = bound_rests d deep (sames ks ws ++ kind_asks b (slot_at s b).kind);
       }
 
   apart_cells : (c k : Cell) → (slot_at s a).cell ≡ c → (slot_at s b).cell ≡ k → Differ c k → Clash s (Same a b ∷ [])
@@ -160,6 +179,8 @@ same_stepped s t v w a b before after l m p = record {
   graph = p.graph;
   spread = same_spread s t before after v w a b p.spread;
   depths = p.depths;
+  constants = p.constants;
+  rests = p.rests;
 }
 
 pub turned_stepped : (s t : Store) (a b : ℕ) (before after : List Ask) → Stepped s before (Same b a ∷ []) t after → Stepped s before (Same a b ∷ []) t after
@@ -171,6 +192,8 @@ turned_stepped s t a b before after p = record {
   graph = p.graph;
   spread = same_spread s t before after a b b a p.spread;
   depths = p.depths;
+  constants = p.constants;
+  rests = p.rests;
 }
 
 pub same_clashed : (s : Store) (v w a b : ℕ) → Leads s v a → Leads s w b → Clash s (Same a b ∷ []) → Clash s (Same v w ∷ [])

@@ -96,3 +96,9 @@ pub mod RowsBound
 pub mod Building
 -- a store with a variable more, and its solutions
 pub mod Extending
+-- two ground types are the same, or not
+pub mod Deciding
+-- the types of some variables say those of others
+pub mod Resting
+-- a constant is let go
+pub mod Loosening

@@ -12,14 +12,15 @@ use Rattle.type_store.specs.View.{slot_view, store_view}
 use Rattle.type_store.proofs.Undoing.{length_view}
 use Rattle.type_store.proofs.Joins.{cell_moved}
 use Rattle.type_store.specs.Store.{Cell, Open, Bound, Built, Row, Constant, Slot, Store, slot_at, field_names, field_slots}
-use Rattle.type_store.specs.Shape.{IsCell, IsStore, Ranked, parts_of}
+use Rattle.type_store.specs.Shape.{IsCell, IsStore, Once, Ranked, parts_of}
 use Rattle.type_store.specs.Solutions.{Ask}
 use Rattle.type_store.specs.Steps.{IsGraph, put, is_bound}
 use Rattle.type_store.specs.Spreading.{SpreadBut, EachSpread}
 use Rattle.type_store.specs.Cycles.{parts_at}
 use Rattle.type_store.specs.Finish.{IsSettled}
 use Rattle.type_store.specs.Levels.{depth_at, IsLowered, IsLevelled, IsLevelledBut, Waiting}
-use Rattle.type_store.specs.Adding.{NoDeeper}
+use Rattle.type_store.specs.Building.{IsFresh}
+use Rattle.type_store.proofs.Resting.{constant_there}
 use Rattle.type_store.proofs.Turns.{Which, Yes, Not, which, slot_pushed, slot_before}
 use Rattle.type_store.proofs.Parts.{slot_past}
 use Rattle.type_store.proofs.Keeping.{each_made, below_any}
@@ -165,16 +166,34 @@ module _ (s : Store) (c : Cell) (d : ℕ) (whole : IsStore s) (inside : All (λ 
   pub made_spread : (work : List Ask) → SpreadBut made work any_kind c → EachSpread made work
   made_spread work new = each_made s work d c new (store_spread s work whole)
 
-  pub made_settled : IsCell (length s) c → SpreadBut made [] any_kind c → IsSettled made
-  made_settled cell new = record {
+  -- its constant is no other variable's
+  pub made_once : IsFresh s c → Once made
+  made_once fresh v w r e f = go (which v (length s)) (which w (length s))
+    where
+      new_one : (u : ℕ) → u ≡ length s → (slot_at made u).cell ≡ Constant r → c ≡ Constant r
+      new_one u q z = ap (λ (x : Slot). x.cell) (sym (slot_pushed s (put c d))) ∙ (ap (λ n. (slot_at made n).cell) (sym q) ∙ z)
+
+      old_one : (u : ℕ) → u ≢ length s → (slot_at made u).cell ≡ Constant r → (slot_at s u).cell ≡ Constant r
+      old_one u n z = ⊎_elim (λ l. ap (λ (x : Slot). x.cell) (sym (slot_before s (put c d) u l)) ∙ z)
+          (λ h. absurd (let y = ap (λ (x : Slot). x.cell) (sym (slot_past made u (omega (arith, h, n, longer)))) ∙ z in cc)) (cases_lt u (length s))
+
+      go : Which v (length s) → Which w (length s) → v ≡ w
+      go (Yes p) (Yes q) = p ∙ sym q
+      go (Yes p) (Not q) = absurd (fresh r (new_one v p e) (constant_there s w r (old_one w q f)))
+      go (Not p) (Yes q) = absurd (fresh r (new_one w q f) (constant_there s v r (old_one v p e)))
+      go (Not p) (Not q) = whole.once v w r (old_one v p e) (old_one w q f)
+
+  pub made_settled : IsFresh s c → IsCell (length s) c → SpreadBut made [] any_kind c → IsSettled made
+  made_settled fresh cell new = record {
     inside = (made_graph cell).inside;
     cells = (made_graph cell).cells;
     spread = λ v l. all_spread made (slot_at made v).kind (slot_at made v).cell (made_spread [] new v l);
+    once = made_once fresh;
   }
 
   -- once its parts are no deeper
-  pub made_whole : (last : Store) → IsCell (length s) c → SpreadBut made [] any_kind c → IsLowered made last → IsLevelled last → IsStore last
-  made_whole last cell new low level = lowered_whole made last low (made_settled cell new) level (lowered_ranks last low)
+  pub made_whole : IsFresh s c → (last : Store) → IsCell (length s) c → SpreadBut made [] any_kind c → IsLowered made last → IsLevelled last → IsStore last
+  made_whole fresh last cell new low level = lowered_whole made last low (made_settled fresh cell new) level (lowered_ranks last low)
     where
       lowered_ranks : (last : Store) → IsLowered made last → Ranked last
       lowered_ranks last low = record {
@@ -183,17 +202,18 @@ module _ (s : Store) (c : Cell) (d : ℕ) (whole : IsStore s) (inside : All (λ 
       }
 
   -- a variable whose cell names no other
-  pub alone_whole : IsCell (length s) c → SpreadBut made [] any_kind c → parts_of c ≡ [] → IsStore made
-  alone_whole cell new none = record {
+  pub alone_whole : IsFresh s c → IsCell (length s) c → SpreadBut made [] any_kind c → parts_of c ≡ [] → IsStore made
+  alone_whole fresh cell new none = record {
     each = λ v l. record {
       inside = (made_graph cell).inside v l;
       cell = (made_graph cell).cells v l;
-      spread = (made_settled cell new).spread v l;
+      spread = (made_settled fresh cell new).spread v l;
       levelled = at_each (λ v x. All (λ w. depth_at made w ≤ x.depth) (parts_of x.cell))
           (λ v l. old_level (parts_of (slot_at s v).cell) (slot_at s v).depth (whole.each v l).inside (whole.each v l).levelled)
           (subst (λ ws. All (λ w. depth_at made w ≤ d) ws) (sym none) (All-nil (λ w. depth_at made w ≤ d))) v l;
     };
     ranked = made_ranked;
+    once = made_once fresh;
   }
     where
       old_level : (ws : List ℕ) (e : ℕ) → All (λ w. w < length s) ws → All (λ w. depth_at s w ≤ e) ws → All (λ w. depth_at made w ≤ e) ws
@@ -204,8 +224,14 @@ module _ (s : Store) (c : Cell) (d : ℕ) (whole : IsStore s) (inside : All (λ 
           (old_level ws e (All-tail (λ w. w < length s) w ws i) (All-tail (λ w. depth_at s w ≤ e) w ws r))
 
   -- no variable that there was is deeper
-  pub made_depths : (last : Store) → IsLowered made last → NoDeeper s last
+  pub made_depths : (last : Store) → IsLowered made last → (v : ℕ) → v < length s → depth_at last v ≤ depth_at s v
   made_depths last low v l = omega (arith, low.lower v, same_depth v l)
+
+  -- nor is the new one deeper than it was made
+  pub new_depth : (last : Store) → IsLowered made last → depth_at last (length s) ≤ d
+  new_depth last low =
+      let at_new : depth_at made (length s) ≡ d = ap (λ (x : Slot). x.depth) (slot_pushed s (put c d)) in
+      omega (arith, at_new, low.lower (length s))
 
 -- ---- as the program does it
 
@@ -232,7 +258,7 @@ module _ (items new : List kept.Slot) (c : Cell) (d : ℕ) (whole : IsStore (sto
       subst (λ xs. IsLevelledBut (store_view new) (Waiting xs)) (sym (f ∙ (ap (λ xs. xs ++ n ∷ []) g ∙ ap (λ m. m ∷ []) (e ∙ sym (length_view items)))))
       (subst (λ s. IsLevelledBut s (Waiting (length (store_view items) ∷ []))) (sym is) (made_levelled (store_view items) c d whole inside_view))
 
-  pub did_alone : parts_of c ≡ [] → IsCell 0 c → IsStore (store_view new)
-  did_alone none cell =
-      subst IsStore (sym is) (alone_whole (store_view items) c d whole inside_view (cell_moved 0 (length (store_view items)) c (alone_free c none) cell)
+  pub did_alone : IsFresh (store_view items) c → parts_of c ≡ [] → IsCell 0 c → IsStore (store_view new)
+  did_alone fresh none cell =
+      subst IsStore (sym is) (alone_whole (store_view items) c d whole inside_view fresh (cell_moved 0 (length (store_view items)) c (alone_free c none) cell)
       (alone_spread (store_view items ++ put c d ∷ []) [] c none) none)

@@ -14,6 +14,7 @@ use Rattle.type_store.proofs.Graphs.{kinds_inside}
 use Rattle.type_store.specs.Spreading.{EachSpread}
 use Rattle.type_store.proofs.Joins.{low_not, graph_bound}
 use Rattle.type_store.proofs.Keeping.{each_more, each_less, each_bound, depths_set, depths_chained}
+use Rattle.type_store.proofs.Resting.{constants_set, constants_chained, rests_after}
 use Rattle.type_store.proofs.RowEnds.{rows_bound, rows_clash, twice_clash, twice_clash_first}
 
 -- ---- what the fields name is there
@@ -155,6 +156,9 @@ module _ (s : Store) (a b : ℕ) (low : a < b) (l : b < length s) (g : IsGraph s
             let bound : EachSpread t one = subst (EachSpread t) (sym p) (each_bound s before b a d l (each_less s before a b k)) in
             x.spread (subst (EachSpread t) (sym q) (each_more t one common bound));
         depths = depths_chained s t new (omega (arith, same_length)) (depths_set s b (put (Bound a) d) l refl) x.depths;
+        constants = constants_chained s t new (constants_set s b (put (Bound a) d) l (λ r z. absurd (cc))) x.constants;
+        rests = λ i. rests_after s t new x.left (kinds ++ (common ++ x.left)) i same_length (depths_set s b (put (Bound a) d) l refl)
+            (λ σ m. all_right (MeetsAsk σ) common x.left (all_right (MeetsAsk σ) kinds (common ++ x.left) m)) (x.rests i);
       }
 
   pub rows_never : NoEnds t L R e f → Clash s (Same a b ∷ [])

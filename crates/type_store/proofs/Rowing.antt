@@ -1,5 +1,5 @@
 -- A record is made, over a variable that is to lack its fields.
-use Rattle.std.proofs.Common.{◌≡◌, ℕ, ◌<◌, List, [], ◌∷◌, ◌++◌, length, get_or, map, ⊎_elim, inr, true, false, Option, Some, None, refl, sym, ap, ◌∙◌, subst, arith}
+use Rattle.std.proofs.Common.{◌≡◌, ℕ, ◌+◌, ◌<◌, List, [], ◌∷◌, ◌++◌, length, get_or, map, ⊎_elim, inr, true, false, Option, Some, None, refl, sym, ap, ◌∙◌, subst, arith}
 use Rattle.std.specs.List.{All}
 use Rattle.std.proofs.lemmas.Bool.{cases_lt}
 use Rattle.std.proofs.lemmas.List.{length_push, length-map, get_or-map}
@@ -15,7 +15,8 @@ use Rattle.type_store.specs.Steps.{AskInside, IsGraph, put, rest_asks}
 use Rattle.type_store.specs.Ends.{Turns}
 use Rattle.type_store.specs.Spreading.{HasLack, SpreadBut, EachSpread}
 use Rattle.type_store.specs.Levels.{IsLowered, IsLevelled}
-use Rattle.type_store.specs.Adding.{IsReady, Settled, NoDeeper}
+use Rattle.type_store.specs.Adding.{IsReady, Settled}
+use Rattle.type_store.specs.Reaching.{SameLow, GoesOnAt}
 use Rattle.type_store.proofs.Turns.{Which, Yes, Not, which, slot_pushed, slot_before, becomes_chained, clash_before, lacks_to_asks, lacks_from_asks, asks_same, all_right}
 use Rattle.type_store.proofs.Parts.{slot_past}
 use Rattle.type_store.proofs.OneSlot.{put_meets}
@@ -25,8 +26,9 @@ use Rattle.type_store.proofs.RowValues.{lacks_row, rise_row, ground_row}
 use Rattle.type_store.proofs.KindSteps.{implied}
 use Rattle.type_store.proofs.Keeping.{keeps_kinds, spread_kept}
 use Rattle.type_store.proofs.Settling.{store_graph}
-use Rattle.type_store.proofs.Making.{made_graph, made_ranked, made_spread, made_depths}
-use Rattle.type_store.proofs.Whole.{lowered_becomes}
+use Rattle.type_store.proofs.Making.{made_graph, made_ranked, made_spread, made_once, made_depths, new_depth}
+use Rattle.type_store.proofs.Resting.{all_cells, constants_chained, constants_made, constants_same, no_new, rests_lowered, rests_made}
+use Rattle.type_store.proofs.Whole.{lowered_becomes, lowered_once}
 
 -- ---- a store whose depths are less is as ready
 
@@ -154,6 +156,9 @@ module _ (s : Store) (fs : List FieldSlot) (end : Option ℕ) (d : ℕ) (whole :
       said : (σ : Values) (t : Ground) → Says σ t (Row fs end) → lacks_all (field_names fs) (rest_value σ.types end) ≡ true
       said σ t p = p.1
 
+  longer : length with_row ≡ length s + 1
+  longer = length_push s (put (Row fs end) d)
+
   module _ (low : Store) (lowered : IsLowered with_row low) where
     more_there : All (AskInside (length low)) row_asks
     more_there = rests_inside (length low) end (field_names fs)
@@ -167,6 +172,7 @@ module _ (s : Store) (fs : List FieldSlot) (end : Option ℕ) (d : ℕ) (whole :
       spread = lowered_each with_row low lowered row_asks (made_spread s (Row fs end) d whole inside row_asks (row_spread with_row fs end));
       levelled = level;
       ranked = lowered_ranks with_row low lowered (made_ranked s (Row fs end) d whole inside);
+      once = lowered_once with_row low lowered (made_once s (Row fs end) d whole inside (λ r e. absurd (cc)));
     }
 
     pub row_becomes : (new : Store) → Settled low row_asks new → Becomes with_row [] new []
@@ -176,6 +182,18 @@ module _ (s : Store) (fs : List FieldSlot) (end : Option ℕ) (d : ℕ) (whole :
     pub row_clashes : Clash low row_asks → Clash s row_asks
     row_clashes c = row_clash (clash_before with_row low row_asks row_asks (lowered_becomes with_row low lowered row_asks) c)
 
-    pub row_depths : (new : Store) → Settled low row_asks new → NoDeeper s new
-    row_depths new r v l =
-        omega (arith, made_depths s (Row fs end) d whole inside low lowered v l, r.depths v (omega (arith, l, lowered.count, length_push s (put (Row fs end) d))))
+    pub row_goes : (new : Store) → Settled low row_asks new → GoesOnAt d s new
+    row_goes new r = record {
+      grows = omega (arith, lowered.count, longer, r.goes.grows);
+      no_deeper = λ v l. omega (arith, made_depths s (Row fs end) d whole inside low lowered v l, r.goes.no_deeper v (omega (arith, l, lowered.count, longer)));
+      made = omega (arith, new_depth s (Row fs end) d whole inside low lowered, r.goes.no_deeper (length s) (omega (arith, lowered.count, longer)));
+      rests = λ e under. record { same = λ σ τ f g h. (r.goes.rests e).same σ τ f g (low_same e under new r σ τ f g h) };
+      constants = λ k h. no_new s low (constants_chained s with_row low (constants_made s (put (Row fs end) d) (λ t z. (cc)))
+          (constants_same with_row low (λ v t z. sym (lowered.cells v) ∙ z))) k (r.goes.constants k h);
+    }
+      where
+        low_same : (e : ℕ) → e < d → (new : Store) → Settled low row_asks new → (σ τ : Values) → Fit σ new → Fit τ new → SameLow e s σ τ → SameLow e low σ τ
+        low_same e under new r σ τ f g h =
+            (rests_lowered with_row low lowered (all_cells with_row (made_graph s (Row fs end) d whole inside cell)) e).same σ τ
+            (r.becomes.back σ f (All-nil (MeetsAsk σ))).0 (r.becomes.back τ g (All-nil (MeetsAsk τ))).0
+            (rests_made s (Row fs end) d e under σ τ h)

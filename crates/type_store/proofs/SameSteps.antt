@@ -1,5 +1,5 @@
 -- Steps for what is asked, and all of them in turn.
-use Rattle.std.proofs.Common.{◌≡◌, ℕ, ◌<◌, ◌≤◌, List, [], ◌∷◌, ◌++◌, length, get_or, sym, ap, ◌∙◌, subst, arith, All}
+use Rattle.std.proofs.Common.{◌≡◌, ℕ, ◌<◌, ◌≤◌, List, [], ◌∷◌, ◌++◌, length, get_or, refl, sym, ap, ◌∙◌, subst, arith, All}
 use Rattle.std.proofs.lemmas.List.{append-nil, map_push}
 use Rattle.std.proofs.lemmas.List.Elements.{All-head, All-nil, All-append}
 use Rattle.type_store.specs.Store.{Slot, Store, slot_at}
@@ -18,6 +18,8 @@ use Rattle.type_store.proofs.OneSlot.{same_roots, same_itself, clash_turned}
 use Rattle.type_store.proofs.Joins.{same_stepped, turned_stepped, same_clashed, joined_clash}
 use Rattle.type_store.proofs.RowJoins.{asks_more}
 use Rattle.type_store.proofs.Keeping.{each_less, depths_itself, depths_chained}
+use Rattle.type_store.specs.Reaching.{KeepsConstants, LowRestsBut}
+use Rattle.type_store.proofs.Resting.{constants_itself, constants_chained, rests_kept, rests_chained}
 
 -- ---- two variables
 
@@ -41,6 +43,8 @@ same_already s v w a b before g l m e = record {
   graph = g;
   spread = each_less s before v w;
   depths = depths_itself s;
+  constants = constants_itself s;
+  rests = rests_kept s s [] refl (depths_itself s);
 }
 
 pub same_swapped : (s t : Store) (v w a b : ℕ) (before after : List Ask) → Leads s v a → Leads s w b → Stepped s before (Same b a ∷ []) t after → Stepped s before (Same v w ∷ []) t after
@@ -58,6 +62,8 @@ pub record RunsTo (old : Store) (asked : List Ask) (new : Store) (now : List Ask
   pub inside : All (AskInside (length new)) now
   pub spread : EachSpread old asked → EachSpread new now
   pub depths : KeepsDepths old new
+  pub constants : KeepsConstants old new
+  pub rests : (e : ℕ) → LowRestsBut e old new now
 
 pub runs_none : (s : Store) (asked : List Ask) → IsGraph s → All (AskInside (length s)) asked → RunsTo s asked s asked
 runs_none s asked g i = record {
@@ -66,6 +72,8 @@ runs_none s asked g i = record {
   inside = i;
   spread = λ e. e;
   depths = depths_itself s;
+  constants = constants_itself s;
+  rests = rests_kept s s asked refl (depths_itself s);
 }
 
 pub runs_all : (s t : Store) (asked now : List Ask) → now ≡ [] → RunsTo s asked t now → Ran s asked t
@@ -74,6 +82,8 @@ runs_all s t asked now e r = record {
   graph = r.graph;
   spread = λ h. subst (EachSpread t) e (r.spread h);
   depths = r.depths;
+  constants = r.constants;
+  rests = λ i. subst (LowRestsBut i s t) e (r.rests i);
 }
 
 pub runs_on : (s t u : Store) (asked now rest after : List Ask) (a : Ask) → now ≡ rest ++ a ∷ [] → RunsTo s asked t now → Stepped t rest (a ∷ []) u after → RunsTo s asked u after
@@ -88,6 +98,9 @@ runs_on s t u asked now rest after a e r p =
           (All-append (AskInside (length u)) rest p.left (asks_more (length t) (length u) rest p.becomes.grows i) p.inside);
       spread = λ h. p.spread (subst (EachSpread t) e (r.spread h));
       depths = depths_chained s t u r.becomes.grows r.depths p.depths;
+      constants = constants_chained s t u r.constants p.constants;
+      rests = λ j. subst (LowRestsBut j s u) (sym p.work)
+          (rests_chained s t u (rest ++ a ∷ []) rest p.left j (subst (LowRestsBut j s t) e (r.rests j)) (framed_before t u rest (a ∷ []) p.left i p.becomes) (p.rests j));
     }
 
 pub runs_clash : (s t : Store) (asked now rest : List Ask) (a : Ask) → now ≡ rest ++ a ∷ [] → RunsTo s asked t now → Clash t (a ∷ []) → Clash s asked

@@ -10,8 +10,8 @@ use Rattle.elm_type.specs.declared.demands.Demand.{Demand}
 use Rattle.elm_type.specs.declared.demands.Demand.TheVariants.{Never, Always, OfParts}
 use Rattle.ground_types.specs.Ground.{contains}
 use Rattle.type_store.specs.Store.{Cell, Open, Bound, Built, Row, Constant, Slot, Store, slot_at, field_names}
-use Rattle.type_store.specs.Shape.{Demanded, Spread, IsStore, parts_of}
-use Rattle.type_store.specs.Solutions.{Ask}
+use Rattle.type_store.specs.Shape.{Demanded, Spread, IsStore, Once, parts_of}
+use Rattle.type_store.specs.Solutions.{Ask, MeetsAsk}
 use Rattle.type_store.specs.Spreading.{HasClass, HasLack, DemandedBut, SpreadBut, EachSpread}
 use Rattle.type_store.specs.Steps.{AskInside, IsGraph, Noted, undone, written}
 use Rattle.type_store.specs.Ends.{Ran}
@@ -30,11 +30,12 @@ use Rattle.type_store.proofs.Parts.{slot_past}
 use Rattle.type_store.proofs.Spreading.{all_spread}
 use Rattle.type_store.proofs.Trails.{same_cells}
 use Rattle.type_store.proofs.Turns.{becomes_chained}
-use Rattle.type_store.proofs.Whole.{ranked_but, levelled_but, lowered_becomes}
+use Rattle.type_store.proofs.Whole.{ranked_but, levelled_but, lowered_becomes, fit_back}
+use Rattle.type_store.proofs.Resting.{all_cells, constants_chained, constants_same, no_new, rests_lowered}
 
 -- ---- what is known is known, whatever is asked
 
-below_again : (b c d : Class) → is_below b c ≡ true → is_below c d ≡ true → is_below b d ≡ true
+pub below_again : (b c d : Class) → is_below b c ≡ true → is_below c d ≡ true → is_below b d ≡ true
 below_again b c d g h = below_meets c d (variable (record { place = []; name = []; class = b; lacks = [] })) h g
 
 module _ (s : Store) (work : List Ask) where
@@ -72,7 +73,7 @@ store_spread s work h v l = spread_has s work (slot_at s v).kind (slot_at s v).c
 
 -- a whole store is ready for what is asked
 pub ready : (s : Store) (asked : List Ask) → IsStore s → All (AskInside (length s)) asked → IsReady s asked
-ready s asked h i = record { graph = store_graph s h; inside = i; spread = store_spread s asked h; levelled = store_level s h; ranked = h.ranked }
+ready s asked h i = record { graph = store_graph s h; inside = i; spread = store_spread s asked h; levelled = store_level s h; ranked = h.ranked; once = h.once }
 
 -- ---- all that was asked is done
 
@@ -82,6 +83,7 @@ module _ (old new : Store) (asked : List Ask) (r : IsReady old asked) (ran : Ran
     inside = ran.graph.inside;
     cells = ran.graph.cells;
     spread = λ v l. all_spread new (slot_at new v).kind (slot_at new v).cell (ran.spread r.spread v l);
+    once = ran.constants.once r.once;
   }
 
   module _ (trail : List Noted) (changed : List ℕ) (back : take (length old) (undone new trail) ≡ old)
@@ -100,10 +102,21 @@ module _ (old new : Store) (asked : List Ask) (r : IsReady old asked) (ran : Ran
   ran_whole last low whole = record {
     whole = whole;
     becomes = becomes_chained old new last asked [] [] ran.becomes (lowered_becomes new last low []);
-    depths = λ v l. omega (arith, low.lower v, ran.depths v l);
+    goes = record {
+      grows = omega (arith, ran.becomes.grows, low.count);
+      no_deeper = λ v l. omega (arith, low.lower v, ran.depths v l);
+      rests = λ e. record {
+        same = λ σ τ f g h. (rests_lowered new last low (all_cells new ran.graph) e).same σ τ f g
+            ((ran.rests e).same σ τ (fit_back new last low σ f) (fit_back new last low τ g) (All-nil (MeetsAsk σ)) (All-nil (MeetsAsk τ)) h);
+      };
+      constants = no_new old last (constants_chained old new last ran.constants (constants_same new last (λ v r e. sym (low.cells v) ∙ e)));
+    };
   }
 
 -- ---- a store without variables
+
+empty_once : Once []
+empty_once v w r e f = absurd (let x = ap (λ (y : Slot). y.cell) (sym (slot_past [] v (omega arith))) ∙ e in cc)
 
 pub empty_whole : (s : Store) → s ≡ [] → IsStore s
 empty_whole s e = subst IsStore (sym e) (record {
@@ -112,6 +125,7 @@ empty_whole s e = subst IsStore (sym e) (record {
     rank = λ v. 0;
     each = λ v. subst (λ (x : Slot). All (λ w. 0 < 0) (parts_of x.cell)) (sym (slot_past [] v (omega arith))) (All-nil (λ w. 0 < 0));
   };
+  once = empty_once;
 })
 
 -- ---- as the program does it

@@ -11,7 +11,7 @@ use Rattle.elm_type.specs.declared.demands.Demand.TheVariants.{Never, Always, Of
 use Rattle.ground_types.specs.Ground.{fits}
 use Rattle.elm_type.specs.Classes.{asks}
 use Rattle.type_store.specs.Store.{Cell, Open, Bound, Built, Row, Constant, Store, slot_at, field_names}
-use Rattle.type_store.specs.Shape.{parts_of, IsCell, AllIn, Demanded, Spread, IsSlot, Ranked, IsStore}
+use Rattle.type_store.specs.Shape.{parts_of, IsCell, AllIn, Demanded, Spread, IsSlot, Ranked, IsStore, Once}
 use Rattle.type_store.specs.Solutions.{Values, Says, constant_of, constants_of, Renames, Fit, Ask, Becomes, Clash}
 use Rattle.type_store.specs.Cycles.{parts_at, RankedBut, NoFit, IsSearchable}
 use Rattle.type_store.specs.Levels.{depth_at, IsLowered, IsLevelledBut, Waiting, IsLevelled}
@@ -147,10 +147,14 @@ module _ (a b : Store) (h : IsLowered a b) where
       (subst (λ c. All (λ w. w < length a) (parts_of c)) (sym (h.cells v)) (g.inside v (omega (arith, l, h.count)))))
       (λ v l. subst (IsCell v) (sym (h.cells v)) (g.cells v (omega (arith, l, h.count)))) level
 
+  pub lowered_once : Once a → Once b
+  lowered_once o v w r e f = o v w r (sym (h.cells v) ∙ e) (sym (h.cells w) ∙ f)
+
   pub lowered_whole : IsSettled a → IsLevelled b → Ranked b → IsStore b
   lowered_whole g level r = record {
     each = λ v l. let k : v < length a = omega (arith, l, h.count) in lowered_slot level v (g.inside v k) (g.cells v k) (g.spread v k);
     ranked = r;
+    once = lowered_once g.once;
   }
 
 -- ---- in the end

@@ -1,17 +1,14 @@
 -- What is added to a store.
-use Rattle.std.specs.Prelude.{◌≡◌, ℕ, ◌<◌, ◌≤◌, List, [], length, All}
+use Rattle.std.specs.Prelude.{◌≡◌, List, [], length, All}
 use Rattle.type_store.specs.declared.tools.Tools.{Tools}
 use Rattle.type_store.specs.Store.{Store}
-use Rattle.type_store.specs.Shape.{IsStore, Ranked}
+use Rattle.type_store.specs.Shape.{IsStore, Once, Ranked}
 use Rattle.type_store.specs.Solutions.{Ask, Becomes}
 use Rattle.type_store.specs.Steps.{AskInside, IsGraph}
 use Rattle.type_store.specs.Spreading.{EachSpread}
 use Rattle.type_store.specs.Cycles.{IsAtRest}
-use Rattle.type_store.specs.Levels.{depth_at, IsLevelled}
-
--- no variable that there was is deeper
-abbrev pub NoDeeper : Store → Store → Type 0
-NoDeeper old new = (v : ℕ) → v < length old → depth_at new v ≤ depth_at old v
+use Rattle.type_store.specs.Levels.{IsLevelled}
+use Rattle.type_store.specs.Reaching.{GoesOn}
 
 -- a store that is whole, once what is asked is done
 pub record IsReady (s : Store) (asked : List Ask) : Type 0 where
@@ -20,12 +17,13 @@ pub record IsReady (s : Store) (asked : List Ask) : Type 0 where
   pub spread : EachSpread s asked
   pub levelled : IsLevelled s
   pub ranked : Ranked s
+  pub once : Once s
 
 -- what was asked is done, and the store is whole again
 pub record Settled (old : Store) (asked : List Ask) (new : Store) : Type 0 where
   pub whole : IsStore new
   pub becomes : Becomes old asked new []
-  pub depths : NoDeeper old new
+  pub goes : GoesOn old new
 
 -- no change is noted, and no search goes on
 pub record IsIdle (tools : Tools) : Type 0 where

@@ -8,6 +8,7 @@ use Rattle.type_store.specs.Shape.{Ascending, parts_of}
 use Rattle.type_store.specs.Solutions.{Values, Fit, AgreeBelow, Ask, MeetsAsk, Becomes, row_value, rest_value}
 use Rattle.type_store.specs.Steps.{AskInside, IsGraph, KeepsDepths, sames}
 use Rattle.type_store.specs.Spreading.{EachSpread}
+use Rattle.type_store.specs.Reaching.{KeepsConstants, LowRestsBut}
 
 -- some values that agree with these below n fit the store, and the fact holds of them
 pub record Goes (n : ℕ) (σ : Values) (s : Store) (Q : Values → Type 0) : Type 0 where
@@ -41,6 +42,8 @@ pub record Ended (old : Store) (before : List Ask) (L R : List FieldSlot) (e g :
   pub graph : IsGraph new
   pub spread : EachSpread old before → EachSpread new after
   pub depths : KeepsDepths old new
+  pub constants : KeepsConstants old new
+  pub rests : (e : ℕ) → LowRestsBut e old new left
 
 -- no solution makes them the same
 pub record NoEnds (s : Store) (L R : List FieldSlot) (e g : Option ℕ) : Type 0 where
@@ -65,3 +68,5 @@ pub record Ran (old : Store) (asked : List Ask) (new : Store) : Type 0 where
   pub graph : IsGraph new
   pub spread : EachSpread old asked → EachSpread new []
   pub depths : KeepsDepths old new
+  pub constants : KeepsConstants old new
+  pub rests : (e : ℕ) → LowRestsBut e old new []

@@ -8,7 +8,9 @@ pub mod Laws
 pub mod Reaching
 pub mod Cycles
 pub mod Levels
+pub mod Loosening
 pub mod Finish
 pub mod Spreading
 pub mod Adding
+pub mod Building
 pub mod Insides

@@ -1,7 +1,7 @@
 -- What holds of every store between two calls, so that it has a solution: what is named is there, what is known of a
--- variable is known of those that it leads to, and no type is a part of itself.
+-- variable is known of those that it leads to, no type is a part of itself, and no two variables hold one constant.
 use Rattle.std.specs.Prelude.{◌≡◌, ℕ, ◌<◌, ◌≤◌, List, [], ◌∷◌, ◌++◌, length, true, false, All, Some, None}
-use Rattle.elm_type.specs.Types.{Name, Kind}
+use Rattle.elm_type.specs.Types.{Name, Kind, Rigid}
 use Rattle.elm_type.specs.Classes.{is_below, is_any, asks}
 use Rattle.elm_type.specs.Rows.{name_lt}
 use Rattle.elm_type.specs.declared.demands.Demand.{Demand}
@@ -69,6 +69,11 @@ pub record Ranked (s : Store) : Type 0 where
   pub rank : ℕ → ℕ
   pub each : (v : ℕ) → All (λ w. rank w < rank v) (parts_of (slot_at s v).cell)
 
+-- each constant stands in one slot at most
+abbrev pub Once : Store → Type 0
+Once s = (v w : ℕ) (r : Rigid) → (slot_at s v).cell ≡ Constant r → (slot_at s w).cell ≡ Constant r → v ≡ w
+
 pub record IsStore (s : Store) : Type 0 where
   pub each : (v : ℕ) → v < length s → IsSlot s v (slot_at s v)
   pub ranked : Ranked s
+  pub once : Once s

@@ -18,6 +18,7 @@ use Rattle.type_store.specs.Store.{Constant, Slot, Store, slot_at, field_names, 
 use Rattle.type_store.specs.Solutions.{Ask, Same, InClass, Lacks, Becomes}
 use Rattle.type_store.specs.Shape.{Ascending, NoneIn, IsCell, parts_of}
 use Rattle.type_store.specs.Spreading.{EachSpread}
+use Rattle.type_store.specs.Reaching.{KeepsConstants, LowRestsBut}
 
 -- the variables of an ask are below n
 abbrev pub AskInside : ℕ → Ask → Type 0
@@ -182,6 +183,8 @@ pub record Stepped (old : Store) (before asked : List Ask) (new : Store) (after 
   pub graph : IsGraph new
   pub spread : EachSpread old (before ++ asked) → EachSpread new after
   pub depths : KeepsDepths old new
+  pub constants : KeepsConstants old new
+  pub rests : (e : ℕ) → LowRestsBut e old new left
 
 -- ---- how what is known of two variables goes together
 

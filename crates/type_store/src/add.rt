@@ -7,7 +7,8 @@ ghost use Rattle.type_store.specs.Shape.{IsStore};
 ghost use Rattle.type_store.specs.Steps.{AskInside, undone};
 ghost use Rattle.type_store.specs.Cycles.{IsAtRest};
 ghost use Rattle.type_store.specs.Levels.{depths_undone};
-ghost use Rattle.type_store.specs.Adding.{IsIdle, IsReady, NoDeeper, Settled};
+ghost use Rattle.type_store.specs.Adding.{IsIdle, IsReady, Settled};
+ghost use Rattle.type_store.specs.Reaching.{GoesOn};
 ghost use Rattle.type_store.specs.View.{ask_view, store_view, trail_view, work_view};
 
 use crate::ask::Ask;
@@ -121,7 +122,7 @@ pub(crate) fn add_ask(
     requires work { tools.old.work.items ≡ [] }
     ensures added { OnOk result (Added (store_view slots.old.items) (ask_view ask) (store_view slots.new.items)) }
     ensures clash { result ≡ Err AddError.Clash → Clash (store_view slots.old.items) (ask_view ask ∷ []) }
-    ensures depths { NoDeeper (store_view slots.old.items) (store_view slots.new.items) }
+    ensures goes { OnOk result (GoesOn (store_view slots.old.items) (store_view slots.new.items)) }
     ensures whole { IsStore (store_view slots.new.items) }
     ensures kept { OnErr result (store_view slots.new.items ≡ store_view slots.old.items) }
     ensures idle { IsIdle tools.new }

@@ -2,7 +2,9 @@
 
 ghost use Rattle.std.specs.Prelude.{◌≡◌, ◌<◌, ◌++◌, ◌∷◌, [], length, map, Err, IfOk, OnOk, OnErr, false};
 ghost use Rattle.std.specs.List.{All};
-ghost use Rattle.type_store.specs.Adding.{IsIdle, NoDeeper};
+ghost use Rattle.type_store.specs.Adding.{IsIdle};
+ghost use Rattle.type_store.specs.Building.{IsFresh};
+ghost use Rattle.type_store.specs.Reaching.{GoesOnAt};
 ghost use Rattle.type_store.specs.Levels.{IsLowered};
 ghost use Rattle.type_store.specs.Shape.{IsCell, IsStore, parts_of};
 ghost use Rattle.type_store.specs.Solutions.{Becomes, Clash};
@@ -30,6 +32,7 @@ pub(crate) fn push(
     depth: u32,
 ) -> Result<u32, AllocError>
     requires whole { IsStore (store_view slots.old.items) }
+    requires fresh { IsFresh (store_view slots.old.items) (cell_view cell) }
     requires alone { parts_of (cell_view cell) ≡ [] }
     requires cell { IsCell 0 (cell_view cell) }
     ensures number { IfOk result (λ v. v ≡ length slots.old.items) }
@@ -103,7 +106,7 @@ pub(crate) fn push_row(
         depth ∷ []) [] (store_view slots.new.items) []) }
     ensures clash { result ≡ Err AddError.Clash → Clash (store_view slots.old.items) (rest_asks end (field_names
         (map field_view fields.items))) }
-    ensures depths { NoDeeper (store_view slots.old.items) (store_view slots.new.items) }
+    ensures goes { OnOk result (GoesOnAt depth (store_view slots.old.items) (store_view slots.new.items)) }
     ensures kept { OnErr result (store_view slots.new.items ≡ store_view slots.old.items) }
     ensures whole { IsStore (store_view slots.new.items) }
     ensures idle { IsIdle tools.new }

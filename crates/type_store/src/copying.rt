@@ -4,6 +4,7 @@ ghost use Rattle.std.specs.Prelude.{◌≡◌, IfOk, map};
 ghost use Rattle.type_store.specs.View.{cell_view, field_view};
 
 use crate::slot::{Cell, FieldSlot};
+use elm_names::name::Name;
 use std::alloc::{AllocError, Global};
 
 /// The same fields once more. The error means that memory ran out.
@@ -27,6 +28,17 @@ fn copy_slots(alloc: Global, slots: &[u32]) -> Result<Vec<u32>, AllocError>
     let mut copies = Vec::new(alloc);
     for slot in slots {
         copies.push(*slot)?;
+    }
+    Ok(copies)
+}
+
+/// The same names once more: they are shared. The error means that memory ran out.
+pub(crate) fn copy_names(alloc: Global, names: &[Name]) -> Result<Vec<Name>, AllocError>
+    ensures { IfOk result (λ copies. copies.items ≡ names.now) }
+{
+    let mut copies = Vec::new(alloc);
+    for name in names {
+        copies.push(name.clone()?)?;
     }
     Ok(copies)
 }

@@ -12,6 +12,7 @@ ghost use Rattle.type_store.specs.View.{field_view, store_view, trail_view, work
 use crate::ask::Ask;
 use crate::asking::push_rest;
 use crate::change::Change;
+use crate::cycle::depth;
 use crate::join::{ask_kind, fresh, put};
 use crate::slot::{Cell, FieldSlot, Slot};
 use std::alloc::{AllocError, Global};
@@ -117,9 +118,8 @@ fn both_take(
 {
     ask_kind(slots, work, first)?;
     ask_kind(slots, work, second)?;
-    let depth = slots[first as usize].depth;
-    let lower = slots[second as usize].depth;
-    let number = make_open(alloc, slots, if lower < depth { lower } else { depth })?;
+    let lower = depth(slots, first).min(depth(slots, second));
+    let number = make_open(alloc, slots, lower)?;
     push_rest(work, Some(number), &right)?;
     push_rest(work, Some(number), &left)?;
     put(alloc, slots, trail, first, Cell::Row(right, Some(number)))?;

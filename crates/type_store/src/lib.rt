@@ -20,6 +20,7 @@ mod kinds;
 pub mod laws;
 mod level;
 mod lookup;
+mod loosen;
 mod make;
 mod pair;
 mod row;

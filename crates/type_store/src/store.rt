@@ -1,15 +1,16 @@
 //! A store of type variables.
 
-ghost use Rattle.std.specs.Prelude.{◌≡◌, ◌<◌, ◌++◌, ◌∷◌, [], length, map, Err, IfOk, OnOk, OnErr, false};
-ghost use Rattle.std.specs.List.{All};
+ghost use Rattle.std.specs.Prelude.{◌≡◌, ◌<◌, ◌++◌, ◌∷◌, [], length, map, Err, IfOk, OnOk, OnErr, true, false};
+ghost use Rattle.std.specs.List.{All, Contains};
 ghost use Rattle.type_store.specs.Store.{slot_at, field_names};
 ghost use Rattle.type_store.specs.Store as plain;
 ghost use Rattle.type_store.specs.Shape.{IsCell, IsStore, parts_of};
-ghost use Rattle.type_store.specs.Solutions.{Added, Becomes, Clash};
+ghost use Rattle.type_store.specs.Solutions.{Added, Becomes, Clash, constants_of};
 ghost use Rattle.type_store.specs.Solutions as solutions;
 ghost use Rattle.type_store.specs.Steps.{AskInside, Leads, is_bound, put, rest_asks};
 ghost use Rattle.type_store.specs.Levels.{IsLowered};
-ghost use Rattle.type_store.specs.Adding.{NoDeeper};
+ghost use Rattle.type_store.specs.Loosening.{IsLoosened, is_constant};
+ghost use Rattle.type_store.specs.Reaching.{GoesOn, GoesOnAt};
 ghost use Rattle.type_store.specs.View.{ask_view, field_view, store_view};
 
 use crate::add::add_ask;
@@ -17,6 +18,7 @@ use crate::ask::Ask;
 use crate::build::{push, push_built, push_row};
 use crate::chain::find;
 use crate::error::AddError;
+use crate::loosen::loosen;
 use crate::slot::{Cell, FieldSlot, Slot};
 use crate::tools::Tools;
 use elm_names::name::Name;
@@ -88,15 +90,38 @@ impl Store {
         push(self.alloc, &mut self.slots, Cell::Open, depth)
     }
 
-    /// Makes a variable whose type is the constant `rigid`, inside `depth` definitions, and returns its number. The
-    /// error is that memory or numbers ran out: then the store is as before.
+    /// How many definitions the variable `variable` was made inside, or a lower number, where the types of variables
+    /// with that number say its type.
+    pub fn depth(&self, variable: u32) -> u32
+        requires { variable < length self.now }
+        ensures { result ≡ (slot_at self.now variable).depth }
+    {
+        self.slots[variable as usize].depth
+    }
+
+    /// Makes a variable whose type is the constant `rigid`, which no variable has yet, inside `depth` definitions, and
+    /// returns its number. The error is that memory or numbers ran out: then the store is as before.
     pub fn constant(&mut self, rigid: Rigid, depth: u32) -> Result<u32, AllocError>
+        requires { Contains (constants_of self.old) rigid → ⊥ }
         ensures number { IfOk result (λ v. v ≡ length self.old) }
         ensures made { OnOk result (self.new ≡ self.old ++ put (plain.Constant rigid) depth ∷ []) }
         ensures kept { OnErr result (self.new ≡ self.old) }
         ensures whole { IsStore self.new }
     {
         push(self.alloc, &mut self.slots, Cell::Constant(rigid), depth)
+    }
+
+    /// Lets the constant of the variable `variable` go: then no more is known of the variable than its class and the
+    /// fields that it lacks, which are those of the constant. The error is that memory ran out: then the store is as
+    /// before.
+    pub fn loosen(&mut self, variable: u32) -> Result<(), AllocError>
+        requires inside { variable < length self.old }
+        requires constant { is_constant (slot_at self.old variable).cell ≡ true }
+        ensures made { OnOk result (IsLoosened self.old variable self.new) }
+        ensures kept { OnErr result (self.new ≡ self.old) }
+        ensures whole { IsStore self.new }
+    {
+        loosen(self.alloc, &mut self.slots, variable)
     }
 
     /// Makes a variable whose type has the head `head` and the parts `parts`, inside `depth` definitions, and returns
@@ -136,7 +161,7 @@ impl Store {
             [] self.new []) }
         ensures clash { result ≡ Err AddError.Clash → Clash self.old (rest_asks end (field_names
             (map field_view fields.items))) }
-        ensures depths { NoDeeper self.old self.new }
+        ensures goes { OnOk result (GoesOnAt depth self.old self.new) }
         ensures kept { OnErr result (self.new ≡ self.old) }
         ensures whole { IsStore self.new }
     {
@@ -157,7 +182,7 @@ impl Store {
         requires second { other < length self.old }
         ensures added { OnOk result (Added self.old (solutions.Same variable other) self.new) }
         ensures clash { result ≡ Err AddError.Clash → Clash self.old (solutions.Same variable other ∷ []) }
-        ensures depths { NoDeeper self.old self.new }
+        ensures goes { OnOk result (GoesOn self.old self.new) }
         ensures kept { OnErr result (self.new ≡ self.old) }
         ensures whole { IsStore self.new }
     {
@@ -170,7 +195,7 @@ impl Store {
         requires { variable < length self.old }
         ensures added { OnOk result (Added self.old (solutions.InClass variable class) self.new) }
         ensures clash { result ≡ Err AddError.Clash → Clash self.old (solutions.InClass variable class ∷ []) }
-        ensures depths { NoDeeper self.old self.new }
+        ensures goes { OnOk result (GoesOn self.old self.new) }
         ensures kept { OnErr result (self.new ≡ self.old) }
         ensures whole { IsStore self.new }
     {
@@ -183,7 +208,7 @@ impl Store {
         requires { variable < length self.old }
         ensures added { OnOk result (Added self.old (solutions.Lacks variable name) self.new) }
         ensures clash { result ≡ Err AddError.Clash → Clash self.old (solutions.Lacks variable name ∷ []) }
-        ensures depths { NoDeeper self.old self.new }
+        ensures goes { OnOk result (GoesOn self.old self.new) }
         ensures kept { OnErr result (self.new ≡ self.old) }
         ensures whole { IsStore self.new }
     {
@@ -195,7 +220,7 @@ impl Store {
         requires { AskInside (length self.old) (ask_view ask) }
         ensures added { OnOk result (Added self.old (ask_view ask) self.new) }
         ensures clash { result ≡ Err AddError.Clash → Clash self.old (ask_view ask ∷ []) }
-        ensures depths { NoDeeper self.old self.new }
+        ensures goes { OnOk result (GoesOn self.old self.new) }
         ensures kept { OnErr result (self.new ≡ self.old) }
         ensures whole { IsStore self.new }
     {

@@ -8,4 +8,4 @@ use Rattle.type_store.proofs.build.push.Goals as goal
 pub returns-clause-whole : goal.returns-clause-whole
 returns-clause-whole c =
     did_alone c.args.slots.now.items c.push_cell.new.slots.items (cell_view c.args.cell) c.args.depth c.requires.whole
-    (none_all (λ w. w < length c.args.slots.now.items) (parts_of (cell_view c.args.cell)) c.requires.alone) c.in_ok-push_cell.ensures.made c.requires.alone c.requires.cell
+    (none_all (λ w. w < length c.args.slots.now.items) (parts_of (cell_view c.args.cell)) c.requires.alone) c.in_ok-push_cell.ensures.made c.requires.fresh c.requires.alone c.requires.cell

@@ -3,7 +3,7 @@ use Rattle.type_store.specs.Steps.{rest_asks}
 use Rattle.type_store.specs.Store.{field_names}
 use Rattle.type_store.specs.View.{field_view, work_view}
 use Rattle.type_store.specs.declared.slot.FieldSlot as stored_field
-use Rattle.type_store.proofs.Building.{did_row_ready, did_row_becomes, did_row_clash, did_row_depths}
+use Rattle.type_store.proofs.Building.{did_row_ready, did_row_becomes, did_row_clash, did_row_goes}
 use Rattle.type_store.proofs.build.push_row.Goals as goal
 
 pub add-requires-clause-ready : goal.add-requires-clause-ready
@@ -20,9 +20,9 @@ returns-in-Ok-true-clause-made c =
     (c.in-Ok-push_rest.ensures ∙ ap (λ (xs : List stored_field.FieldSlot). work_view c.args.tools.now.work.items ++ rest_asks c.args.end (field_names (map field_view xs))) c.deref.ensures.value)
     c.requires.work c.add.new.slots.items (c.add.ensures.yes (c.in-Ok-true.is ∙ ap Ok c.in-Ok-true.field-0-test))
 
-pub returns-in-Ok-true-clause-depths : goal.returns-in-Ok-true-clause-depths
-returns-in-Ok-true-clause-depths c =
-    did_row_depths c.args.slots.now.items c.make.new.slots.items (map field_view c.args.fields.items) c.args.end c.args.depth c.args.tools.now.work.items c.push_rest.new.work.items
+pub returns-in-Ok-true-clause-goes : goal.returns-in-Ok-true-clause-goes
+returns-in-Ok-true-clause-goes c =
+    did_row_goes c.args.slots.now.items c.make.new.slots.items (map field_view c.args.fields.items) c.args.end c.args.depth c.args.tools.now.work.items c.push_rest.new.work.items
     c.requires.whole c.requires.inside c.requires.cell c.in-Ok-make.ensures.lowered
     (c.in-Ok-push_rest.ensures ∙ ap (λ (xs : List stored_field.FieldSlot). work_view c.args.tools.now.work.items ++ rest_asks c.args.end (field_names (map field_view xs))) c.deref.ensures.value)
     c.requires.work c.add.new.slots.items (c.add.ensures.yes (c.in-Ok-true.is ∙ ap Ok c.in-Ok-true.field-0-test))
