@@ -3,21 +3,25 @@
 --
 -- A definition with an annotation stands alone and is used at its annotation. Those without one that use each other are
 -- a group; only names without an annotation count as uses. Inside the group each name has one type. After it each use
--- of a name lists the items of the whole group once more, at a place of its own.
+-- of a name lists the items of the whole group once more, at a place of its own. An annotation inside another one may
+-- be used before its definition: what it asks of the constants around stands before all groups.
 use Rattle.std.specs.Prelude.{ℕ, ◌+◌, List, [], ◌∷◌, ◌++◌, Bool, ◌&&◌, ◌||◌, Option, Some, None, is_none, map, filter}
 use Rattle.std.specs.Prelude.{flat_map, nat_eq, nat_lt, slice_get, if◌then◌else◌}
 use Rattle.std.specs.List.{filter_map, enumerate_from, list_any}
+use Rattle.std.specs.Map.{lookup}
+use Rattle.std.specs.Str.{bytes_eq}
 use Rattle.elm_base.specs.declared.position.Pos.{Pos}
 use Rattle.elm_canon.specs.Names.{same_ref}
 use Rattle.elm_canon.specs.declared.reference.Ref.{Ref}
 use Rattle.elm_canon.specs.Tree.{Annotation}
 use Rattle.elm_proper.specs.Proper.{among}
-use Rattle.elm_type.specs.Types.{int_type, variable, Fixed}
+use Rattle.elm_type.specs.Types.{int_type, variable, Rigid, Fixed, Kind}
 use Rattle.binding_groups.specs.InOrder.{ordered_groups}
-use Rattle.type_items.specs.Items.{Place, child, Wanted, at, Item, Keeps, Small, copied}
+use Rattle.type_items.specs.Items.{Place, child, Wanted, at, Item, Keeps, Small, copied, kind_items}
 use Rattle.type_items.specs.Scopes.{Entry, Instance, General, Known, Entries, Constants, Scope, with_names}
 use Rattle.type_items.specs.Scopes.{with_constants, one_types}
-use Rattle.type_items.specs.Annotations.{own_constants, fixed_variable, fixed_type, annotation_items, scheme_inside}
+use Rattle.type_items.specs.Annotations.{variables_of, kind_of, own_constants, fixed_variable, fixed_type}
+use Rattle.type_items.specs.Annotations.{annotation_items, scheme_inside}
 
 -- What is known of a definition: `list` has its items at a place where its type is the one given, and `types` its names
 -- with their types there.
@@ -136,7 +140,23 @@ entries_as (Some a) around xs = map (λ x. (x, Instance (scheme_inside around a)
 abbrev pub annotated_names : List Definition → Constants → Entries
 annotated_names ds around = flat_map (λ d. entries_as d.annotation around d.names) ds
 
+-- what an annotation asks of the constants of annotations around it
+abbrev pub constant_items : Pos → Option Rigid → Kind → List Item
+constant_items pos None k = []
+constant_items pos (Some r) k = kind_items pos (variable (Fixed r)) k
+
+abbrev pub asks_around : Option Annotation → Pos → Constants → List Item
+asks_around None pos around = []
+asks_around (Some a) pos around =
+    flat_map (λ x. constant_items pos (lookup (bytes_eq x) around) (kind_of a x)) (variables_of a)
+
+abbrev pub around_items : List Definition → Constants → List Item
+around_items ds around = flat_map (λ d. asks_around d.annotation d.place around) ds
+
+-- annotations are read first, and then the groups
 abbrev pub list_definitions : List Definition → Scope → Place → Listed
 list_definitions ds scope p =
     let ordered = in_written_order ds in
-    list_groups (type_groups ordered) (with_names (annotated_names ordered scope.constants) scope) p 0
+    let inner = with_names (annotated_names ordered scope.constants) scope in
+    let listed = list_groups (type_groups ordered) inner p 0 in
+    record { items = around_items ordered scope.constants ++ listed.items; scope = listed.scope }
