@@ -62,26 +62,33 @@ module _ (P : Rigid → Type 0) (types : ℕ → Ground) where
   of_end (Some x) w c (zero, l, h) = subst (λ z. AllByRecursion P (variables (types z))) h c
   of_end (Some x) w c (suc k, l, h) = absurd (omega arith)
 
-module _ (s : Store) (σ : Values) (f : Fit σ s) (R : Region) where
-  abbrev P : Rigid → Type 0
-  P c = R c.place ≡ false
-
-  clean_part : (c : Cell) (t : Ground) (w : ℕ) → Says σ t c → IsClean R t → Contains (parts_of c) w → IsClean R (σ.types w)
-  clean_part Open t w says clean (k, l, h) = absurd (omega arith)
-  clean_part (Bound u) t w says clean (zero, l, h) = subst (λ z. IsClean R (σ.types z)) h (subst (IsClean R) says clean)
-  clean_part (Bound u) t w says clean (suc k, l, h) = absurd (omega arith)
-  clean_part (Built b ws) t w says clean h = of_part P σ.types ws w (subst (IsClean R) says clean) h
-  clean_part (Row fs end) t w says clean h =
-      let r = row_parts P σ.types fs (rest_value σ.types end) says.1 (subst (IsClean R) says.0 clean) in
+module _ (s : Store) (σ : Values) (f : Fit σ s) (P : Rigid → Type 0) where
+  part_there : (c : Cell) (t : Ground) (w : ℕ) → Says σ t c → AllByRecursion P (variables t) → Contains (parts_of c) w → AllByRecursion P (variables (σ.types w))
+  part_there Open t w says clean (k, l, h) = absurd (omega arith)
+  part_there (Bound u) t w says clean (zero, l, h) =
+      subst (λ z. AllByRecursion P (variables (σ.types z))) h (subst (λ z. AllByRecursion P (variables z)) says clean)
+  part_there (Bound u) t w says clean (suc k, l, h) = absurd (omega arith)
+  part_there (Built b ws) t w says clean h = of_part P σ.types ws w (subst (λ z. AllByRecursion P (variables z)) says clean) h
+  part_there (Row fs end) t w says clean h =
+      let r = row_parts P σ.types fs (rest_value σ.types end) says.1 (subst (λ z. AllByRecursion P (variables z)) says.0 clean) in
       go r.0 r.1 (Contains-append_cases (field_slots fs) (end_slots end) w h)
     where
-      go : AllByRecursion P (variables_fields (row_value σ.types fs)) → IsClean R (rest_value σ.types end)
-          → Contains (field_slots fs) w ⊎ Contains (end_slots end) w → IsClean R (σ.types w)
+      go : AllByRecursion P (variables_fields (row_value σ.types fs)) → AllByRecursion P (variables (rest_value σ.types end))
+          → Contains (field_slots fs) w ⊎ Contains (end_slots end) w → AllByRecursion P (variables (σ.types w))
       go a b (inl c) = of_field P σ.types fs w a c
       go a b (inr c) = of_end P σ.types end w b c
-  clean_part (Constant r) t w says clean (k, l, h) = absurd (omega arith)
+  part_there (Constant r) t w says clean (k, l, h) = absurd (omega arith)
 
-  -- along a path
-  pub clean_path : (us : List ℕ) (v w : ℕ) → Path s v us w → IsClean R (σ.types v) → IsClean R (σ.types w)
-  clean_path [] v w h c = subst (λ z. IsClean R (σ.types z)) h c
-  clean_path (u ∷ us) v w h c = clean_path us u w h.1 (clean_part (slot_at s v).cell (σ.types v) u (f.each v).cell c h.0)
+  -- what holds of the constants of a type holds of those of its parts
+  pub parts_there : (v w : ℕ) → AllByRecursion P (variables (σ.types v)) → Contains (parts_of (slot_at s v).cell) w
+      → AllByRecursion P (variables (σ.types w))
+  parts_there v w c h = part_there (slot_at s v).cell (σ.types v) w (f.each v).cell c h
+
+  -- and along a path
+  pub path_there : (us : List ℕ) (v w : ℕ) → Path s v us w → AllByRecursion P (variables (σ.types v)) → AllByRecursion P (variables (σ.types w))
+  path_there [] v w h c = subst (λ z. AllByRecursion P (variables (σ.types z))) h c
+  path_there (u ∷ us) v w h c = path_there us u w h.1 (parts_there v u c h.0)
+
+pub clean_path : (s : Store) (σ : Values) → Fit σ s → (R : Region) (us : List ℕ) (v w : ℕ) → Path s v us w → IsClean R (σ.types v)
+    → IsClean R (σ.types w)
+clean_path s σ f R us v w h c = path_there s σ f (λ r. R r.place ≡ false) us v w h c

@@ -8,6 +8,7 @@ use Rattle.elm_type.specs.Rows.{extend, at_end, substitute_all, substitute_field
 use Rattle.elm_type.specs.declared.class.Class.TheVariants.{Any}
 use Rattle.ground_types.specs.Ground.{leaf_value, value, fits}
 use Rattle.type_items.specs.Items.{Place, Wanted, Item}
+use Rattle.type_items.specs.Solutions.{Solves}
 use Rattle.type_items.specs.Principal.{HasType, unscoped, IsInstance, Outside, IsPrincipal}
 use Rattle.type_store.specs.Store.{Store, Open, slot_at}
 use Rattle.type_store.specs.Solutions.{Values, Fit}
@@ -16,7 +17,7 @@ use Rattle.type_store.specs.Laws.{Chosen, Refit, EachChoiceFits}
 use Rattle.type_store.proofs.RowsMeet.{and_both}
 use Rattle.type_store.proofs.Classes.{meets_any}
 use Rattle.type_walks.specs.Regions.{Region}
-use Rattle.type_walks.specs.Links.{Links, Has, IsClean, Clean, Within}
+use Rattle.type_walks.specs.Links.{Types, AreGround, Links, Carries, Has, IsClean, Clean, Within}
 use Rattle.type_walks.specs.Walks.{Around, Filled}
 use Rattle.type_walks.specs.Progress.{Themselves, Stands}
 use Rattle.type_walks.proofs.Cleaning.{all_first, all_second, constant_there}
@@ -83,7 +84,7 @@ module _ (choice_fits : EachChoiceFits) (a : Around) (R : Region) (p : Place) (b
     | inr h ↦ ap (λ k. fits k (σ.types (place i))) (no_kind scheme.kinds i h) ∙ any_fits (σ.types (place i))
   ]
 
-  instance_of : (g : Ground) → HasType (unscoped before) t g → IsInstance scheme g
+  pub instance_of : (g : Ground) → HasType (unscoped before) t g → IsInstance scheme g
   instance_of g h =
       let r = stands.complete h.solution.values h.solution.ground h.solution.solves in
       record {
@@ -135,13 +136,13 @@ module _ (choice_fits : EachChoiceFits) (a : Around) (R : Region) (p : Place) (b
     fill : Filled a R before [] s links σ
     fill = stands.sound σ fitted.fit σ_own
 
-    has_g : value fill.types t ≡ g
-    has_g = sym (has.same σ fill.types (fill.linked fill.types (λ r e. refl) tt)) ∙ σ_is
+    has_g : (all : Types) → Carries R all fill.types → value all t ≡ g
+    has_g all c = sym (has.same σ all (fill.linked all c tt)) ∙ σ_is
 
     type_of : HasType (unscoped before) t g
     type_of = record {
       solution = record { values = fill.types; ground = fill.ground; solves = fill.solves fill.types (λ r e. refl) tt };
-      has = has_g;
+      has = has_g fill.types (λ r e. refl);
     }
 
     -- without constants of the module
@@ -172,8 +173,20 @@ module _ (choice_fits : EachChoiceFits) (a : Around) (R : Region) (p : Place) (b
       type_kept : HasType before t g
       type_kept = record {
         solution = record { values = fill.types; ground = fill.ground; solves = fill.kept fill.types (λ r e. refl) tt clean };
-        has = has_g;
+        has = has_g fill.types (λ r e. refl);
       }
+
+    -- whatever stands at other places
+    pub filled : (types : Types) × AreGround types × ((all : Types) → Carries R all types → value all t ≡ g)
+        × ((all : Types) → Carries R all types → Solves all (unscoped before))
+        × (Outside p g → (all : Types) → Carries R all types → Solves all before)
+    filled = (
+      fill.types,
+      fill.ground,
+      has_g,
+      (λ all c. fill.solves all c tt),
+      (λ outside all c. fill.kept all c tt (clean outside)),
+    )
 
   principal : IsPrincipal p before t scheme
   principal = record {

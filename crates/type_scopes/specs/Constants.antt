@@ -6,7 +6,9 @@ use Rattle.std.specs.List.{AllByRecursion, Contains}
 use Rattle.elm_base.specs.declared.position.Pos.{Pos}
 use Rattle.elm_type.specs.Types.{Rigid, Fixed, variable}
 use Rattle.type_items.specs.Items.{Place, Wanted, Item, Keeps, Small}
-use Rattle.type_store.specs.Store.{Open, Constant, Slot, Store, slot_at}
+use Rattle.type_store.specs.Store.{Constant, Store, slot_at}
+use Rattle.type_store.specs.Loosening.{let_go}
+use Rattle.type_store.specs.Steps.{Leads, is_bound}
 use Rattle.type_store.specs.Solutions.{Values, Fit, AgreeBelow, Renames, constants_of}
 use Rattle.type_walks.specs.Regions.{Region, only, below, Inside}
 use Rattle.type_walks.specs.Links.{Links, Has, Live}
@@ -42,16 +44,13 @@ pub record Opened (d : ℕ) (p : Place) (s : Store) (own : List Own) (s' : Store
   pub grows : length s ≤ length s'
   pub depth : (v : ℕ) → v < length s → (slot_at s' v).depth ≤ (slot_at s v).depth
   pub constants : (r : Rigid) → Contains (constants_of s') r → Contains (constants_of s) r ⊎ (only p r.place ≡ true)
+  pub known : (r : Rigid) → Contains (constants_of s') r → Contains (constants_of s) r ⊎ Contains (rigids own) r
   pub live : AllByRecursion (λ o. Live (d + 1) s' o.slot) own
   pub old : (e v : ℕ) → e ≤ d → Live e s' v → Live e s v
   pub back : (σ : Values) → Fit σ s'
       → Fit σ s × AllByRecursion (λ o. σ.types o.slot ≡ variable (σ.constants o.rigid)) own
   pub on : (σ : Values) → Fit σ s → Renames (constants_of s') σ.constants
       → (τ : Values) × Fit τ s' × AgreeBelow (length s) σ τ
-
--- a variable of which nothing more is known than of a constant
-abbrev pub let_go : Slot → Rigid → Slot
-let_go slot r = record { cell = Open; kind = record { class = r.class; lacks = r.lacks }; depth = slot.depth }
 
 -- a variable is what it was, and no constant of the place p; or it was one, deeper than d, and was let go
 pub data LoosenedAt (d : ℕ) (p : Place) (s s' : Store) (v : ℕ) : Type 0 where
@@ -63,6 +62,39 @@ pub data LoosenedAt (d : ℕ) (p : Place) (s s' : Store) (v : ℕ) : Type 0 wher
 pub record Loosened (d : ℕ) (p : Place) (s s' : Store) : Type 0 where
   pub count : length s' ≡ length s
   pub each : (v : ℕ) → LoosenedAt d p s s' v
+
+-- ---- one constant after another
+
+-- the constants are different ones
+abbrev pub Distinct : List Rigid → Type 0
+Distinct [] = Unit {0}
+Distinct (r ∷ rs) = (Contains rs r → ⊥) × Distinct rs
+
+-- in each solution the variables have their constants
+pub record HaveOwn (s : Store) (own : List Own) : Type 0 where
+  pub each : (σ : Values) → Fit σ s → AllByRecursion (λ o. σ.types o.slot ≡ variable (σ.constants o.rigid)) own
+
+-- the variable that a variable is bound to in the end is deeper than d
+pub record IsFree (d : ℕ) (s : Store) (v : ℕ) : Type 0 where
+  pub root : ℕ
+  pub leads : Leads s v root
+  pub ends : is_bound (slot_at s root).cell ≡ false
+  pub deep : d < (slot_at s root).depth
+
+-- a variable is what it was; if it is a constant of the place p, then one that is left; or it was let go
+pub data LoosenedBut (d : ℕ) (p : Place) (left : List Own) (s s' : Store) (v : ℕ) : Type 0 where
+  StillKept : slot_at s' v ≡ slot_at s v
+      → ((r : Rigid) → (slot_at s v).cell ≡ Constant r → only p r.place ≡ true → Contains (rigids left) r)
+      → LoosenedBut d p left s s' v
+  GoneBefore : (r : Rigid) → only p r.place ≡ true → (slot_at s v).cell ≡ Constant r → d < (slot_at s v).depth
+      → slot_at s' v ≡ let_go (slot_at s v) r → (Contains (rigids left) r → ⊥) → LoosenedBut d p left s s' v
+
+-- the constants of the place p were let go, but those that are left
+pub record Loosening (d : ℕ) (p : Place) (left : List Own) (s s' : Store) : Type 0 where
+  pub count : length s' ≡ length s
+  pub each : (v : ℕ) → LoosenedBut d p left s s' v
+
+-- ---- the items
 
 -- the last items of an annotated definition
 abbrev pub scope_items : Pos → Place → List Own → List Wanted → Wanted → List Item

@@ -1,4 +1,6 @@
+pub mod Steps
 pub mod Stepping
-pub mod RowTypes
 pub mod Making
 pub mod Reaching
+pub mod RowTypes
+pub mod Lacking

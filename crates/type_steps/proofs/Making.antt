@@ -12,7 +12,8 @@ use Rattle.elm_type.specs.Rows.{extend}
 use Rattle.elm_type.specs.declared.class.Class.TheVariants.{Any}
 use Rattle.ground_types.specs.Ground.{lacks_all, is_ground, fits}
 use Rattle.type_store.specs.Store.{Cell, Open, Bound, Built, Row, Constant, Slot, Store, open_slot, slot_at, field_names, field_slots, end_slots}
-use Rattle.type_store.specs.Solutions.{Values, Says, Meets, constant_of, constants_of, Fit, AgreeBelow, row_value, rest_value}
+use Rattle.type_store.specs.Solutions.{Values, Says, Meets, MeetsAsk, Becomes, constant_of, constants_of, Fit, AgreeBelow, row_value, rest_value}
+use Rattle.type_store.specs.Reaching.{GoesOnAt}
 use Rattle.type_store.specs.Shape.{parts_of, IsStore}
 use Rattle.type_store.specs.Steps.{put}
 use Rattle.type_store.specs.Levels.{depth_at, IsLowered}
@@ -21,8 +22,7 @@ use Rattle.type_store.proofs.RowsMeet.{and_both}
 use Rattle.type_store.proofs.RowValues.{row_same, map_same}
 use Rattle.type_store.proofs.Classes.{meets_any}
 use Rattle.type_walks.specs.Links.{Live}
-use Rattle.type_steps.specs.Steps.{Makes}
-use Rattle.type_steps.specs.Laws.{MakesCell, MakesOpen}
+use Rattle.type_steps.proofs.Steps.{Makes}
 use Rattle.type_walks.proofs.Cleaning.{constant_there, stored}
 
 -- ---- slots
@@ -248,11 +248,41 @@ module _ (s s' : Store) (d : ℕ) (cell : Cell) (shape : IsStore s) (inside : Al
     on = λ σ t f says ground. (glued n σ t, fit_on σ t f says ground, τ_agree σ t f says ground, glued_at n σ t);
   }
 
-pub makes_cell : MakesCell
+-- to make a variable for a cell without constants is a step, where what it leads to becomes no deeper
+pub makes_cell : (s s' : Store) (d : ℕ) (cell : Cell) → IsStore s → All (λ w. w < length s) (parts_of cell) → constant_of cell ≡ []
+    → IsLowered (s ++ put cell d ∷ []) s' → Makes d s (length s) s' cell
 makes_cell s s' d cell shape inside plain low = made s s' d cell shape inside plain low
 
 lowered_itself : (s : Store) → IsLowered s s
 lowered_itself s = record { count = refl; cells = λ v. refl; kinds = λ v. refl; lower = λ v. omega arith; greatest = λ δ h k v. h v }
 
-pub makes_open : MakesOpen
+-- and so it is for a variable of which nothing is known
+pub makes_open : (s : Store) (d : ℕ) → IsStore s → Makes d s (length s) (s ++ put Open d ∷ []) Open
 makes_open s d shape = made s (s ++ put Open d ∷ []) d Open shape (All-nil (λ w. w < length s)) refl (lowered_itself (s ++ put Open d ∷ []))
+
+-- and where something more is said of what it leads to
+pub makes_on : (s s' : Store) (d : ℕ) (cell : Cell) → IsStore s → All (λ w. w < length s) (parts_of cell) → constant_of cell ≡ []
+    → Becomes (s ++ put cell d ∷ []) [] s' [] → GoesOnAt d s s' → Makes d s (length s) s' cell
+makes_on s s' d cell shape inside plain becomes goes =
+    let base = s ++ put cell d ∷ [] in
+    let m = made s base d cell shape inside plain (lowered_itself base) in
+    record {
+      later = record { grows = omega (arith, goes.grows); depth = goes.no_deeper; constants = goes.constants };
+      live = record { inside = goes.grows; depth = omega (arith, goes.made) };
+      determined = λ e w l live. record {
+        same = λ σ τ f g agree. (goes.rests e l).same σ τ f g (λ u i h. agree u (record { inside = i; depth = h })) w live.inside live.depth;
+      };
+      back = λ σ f. m.back σ (becomes.back σ f (All-nil (MeetsAsk σ))).0;
+      on = λ σ t f says ground. (
+          let r = m.on σ t f says ground in
+          let q = becomes.on r.0 r.1 (All-nil (MeetsAsk r.0)) in
+          let more = length_push s (put cell d) in (
+            q.values,
+            q.fit,
+            record {
+              types = λ v l. r.2.types v l ∙ q.agree.types v (omega (arith, more, l));
+              constants = λ x. r.2.constants x ∙ q.agree.constants x;
+            },
+            sym (q.agree.types (length s) (omega (arith, more))) ∙ r.3,
+          ));
+    }

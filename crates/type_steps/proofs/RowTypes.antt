@@ -1,5 +1,5 @@
 -- To make a variable for a record is a walk.
-use Rattle.std.proofs.Common.{◌≡◌, ℕ, List, [], ◌∷◌, Bool, true, false, cond, Option, Some, None, refl, sym, ap, ◌∙◌}
+use Rattle.std.proofs.Common.{◌≡◌, ℕ, List, [], ◌∷◌, Bool, true, false, cond, Option, Some, None, length, refl, sym, ap, ◌∙◌, subst}
 use Rattle.std.specs.List.{AllZip}
 use Rattle.std.specs.Prelude.{All}
 use Rattle.std.proofs.lemmas.List.Elements.{All-nil, All-cons}
@@ -7,13 +7,18 @@ use Rattle.elm_type.specs.Types.{Name, ElmType, Fields, NoField, MoreField, Made
 use Rattle.elm_type.specs.Rows.{name_lt, extend, at_end, insert_field, insert_all, substitute, substitute_fields}
 use Rattle.ground_types.specs.Ground.{is_ground, value, leaf_value}
 use Rattle.type_items.specs.Items.{Wanted}
-use Rattle.type_store.specs.Store.{FieldSlot, Store, field_slots}
+use Rattle.type_store.specs.Store.{FieldSlot, Store, Row, field_names, field_slots}
+use Rattle.type_store.specs.Shape.{Ascending, IsCell}
 use Rattle.type_store.specs.Solutions.{Values, Fit, row_value, rest_value}
 use Rattle.type_store.proofs.Rows.{extend_twice}
 use Rattle.type_store.proofs.RowValues.{lacks_row, rise_row, ground_row}
 use Rattle.type_store.proofs.Lacking.{ground_extended}
-use Rattle.type_walks.specs.Links.{Types, Links, Linked, Has}
-use Rattle.type_steps.specs.Laws.{typed_fields, rest_type, RestHas, BuildsRow}
+use Rattle.type_walks.specs.Links.{Types, Links, Linked, AreLive, Has}
+use Rattle.type_steps.specs.Laws.{typed_fields, rest_type, RestHas, EndLacks, BuildsRow}
+use Rattle.type_walks.specs.Regions.{none}
+use Rattle.type_walks.specs.Walks.{Around, Walk}
+use Rattle.type_steps.proofs.Steps.{Makes}
+use Rattle.type_steps.proofs.Making.{makes_on}
 use Rattle.type_walks.proofs.Linking.{all_live_later, agree_itself, agree_below, linked_agree}
 
 -- ---- types in the place of the variables of a record with more fields
@@ -74,8 +79,11 @@ rest_ground : (s : Store) (σ : Values) → Fit σ s → (end : Option ℕ) → 
 rest_ground s σ f None = refl
 rest_ground s σ f (Some w) = (f.each w).ground
 
-pub builds_row : BuildsRow
-builds_row a s s' links v fs end ts rest live has last up apart makes = record {
+row_built : (a : Around) (s s' : Store) (links : Links) (v : ℕ) (fs : List FieldSlot) (end : Option ℕ) (ts : List Wanted) (rest : Option Wanted)
+    → AreLive a.depth s links → AllZip (λ (f : FieldSlot) (t : Wanted). Has links f.1 t) fs ts → RestHas links end rest
+    → Ascending (field_names fs) → EndLacks s fs end → Makes a.depth s v s' (Row fs end)
+    → Walk a none [] s links s' ((v, extend (typed_fields fs ts) (rest_type rest)) ∷ links)
+row_built a s s' links v fs end ts rest live has last up apart makes = record {
   later = makes.later;
   live = λ l. (makes.live, all_live_later a.depth s s' links makes.later l);
   determined = makes.determined;
@@ -100,3 +108,14 @@ builds_row a s s' links v fs end ts rest live has last up apart makes = record {
         linked = (r.3 ∙ row_has links σ types linked fs end ts rest has last, linked_agree a.depth s links σ r.0 types live same linked);
       });
 }
+
+up_row : (fs : List FieldSlot) (end : Option ℕ) → IsCell 0 (Row fs end) → Ascending (field_names fs)
+up_row [] None c = tt
+up_row [] (Some w) c = absurd c
+up_row (x ∷ fs) end c = c
+
+pub builds_row : BuildsRow
+builds_row a s s' links v fs end ts rest shape live inside cell has last apart number becomes goes =
+    subst (λ n. Walk a none [] s links s' ((n, extend (typed_fields fs ts) (rest_type rest)) ∷ links)) (sym number)
+    (row_built a s s' links (length s) fs end ts rest live has last (up_row fs end cell) apart
+    (makes_on s s' a.depth (Row fs end) shape inside refl becomes goes))

@@ -1,6 +1,7 @@
 use Rattle.type_steps.proofs.laws.make_law.Goals as goal
 use Rattle.type_steps.proofs.Stepping.{opens, builds}
 use Rattle.type_steps.proofs.RowTypes.{builds_row}
+use Rattle.type_steps.proofs.Lacking.{row_goes}
 
 pub returns-clause-opens : goal.returns-clause-opens
 returns-clause-opens c = opens
@@ -10,3 +11,6 @@ returns-clause-builds c = builds
 
 pub returns-clause-row : goal.returns-clause-row
 returns-clause-row c = builds_row
+
+pub returns-clause-goes : goal.returns-clause-goes
+returns-clause-goes c = row_goes c.solution_law.ensures
