@@ -1,0 +1,4 @@
+pub mod Pairing
+pub mod Explaining
+pub mod Lasting
+pub mod Ending

@@ -1,0 +1,4 @@
+-- groups of definitions
+pub mod Grouping
+-- definitions with annotations
+pub mod Closing

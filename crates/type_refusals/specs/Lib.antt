@@ -1,0 +1,4 @@
+pub mod Passing
+pub mod Failing
+pub mod Laws
+pub mod Annotated

@@ -1,0 +1,4 @@
+-- where expressions stop
+pub mod Stopping
+-- where operations stop
+pub mod Operating
