@@ -1,0 +1,4 @@
+pub mod Ends
+pub mod Walking
+pub mod Working
+pub mod Entering

@@ -1,0 +1,4 @@
+pub mod Types
+pub mod Sums
+pub mod Fields
+pub mod Counting

@@ -1,0 +1,4 @@
+pub mod Reading
+pub mod Growing
+pub mod Cells
+pub mod Thawing

@@ -1,0 +1,4 @@
+//! Copies of frozen types.
+#![tactic(auto)]
+
+pub mod copying;
