@@ -1,0 +1,5 @@
+//! Type inference of expressions without parts that read no scope.
+#![tactic(auto)]
+
+pub mod accessor;
+pub mod literal;

@@ -1,0 +1,2 @@
+-- types that are made in several steps
+pub mod Making
