@@ -13,3 +13,4 @@ pub mod Checked
 pub mod Building
 pub mod Reporting
 pub mod Writing
+pub mod Skipping

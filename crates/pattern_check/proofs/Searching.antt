@@ -73,7 +73,7 @@ first_of_heads : (hs : List Head) (h : Head) → first_head hs ≡ Some h → (g
 first_of_heads [] h e = absurd cc
 first_of_heads (g ∷ gs) h e = (gs, let k : g ≡ h = cc in ap (λ z. z ∷ gs) k)
 
-found_passed : (b : ℕ) (q : List Part) (rows : List (List Part)) → list_heads rows ≡ [] →
+pub found_passed : (b : ℕ) (q : List Part) (rows : List (List Part)) → list_heads rows ≡ [] →
     found_at (found_in b) (None ∷ q) rows ≡ option_map (λ ps. None ∷ ps) (found_at (found_in b) q (map tail_of rows))
 found_passed b q rows e = ap (λ hs. Rattle.pattern_check.specs.Flat.found_by (found_in b) q rows hs (found_at (found_in b) q (map tail_of rows))) e
 

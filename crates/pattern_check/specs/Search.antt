@@ -1,8 +1,8 @@
 -- The search for a missing row: what is still to be tried, and how much that is.
 use Rattle.std.specs.Prelude.{◌≡◌, ℕ, zero, suc, ◌+◌, ⊤, List, [], ◌∷◌, map, Bool, true, false}
-use Rattle.std.specs.Prelude.{Option, Some, None, option_map}
+use Rattle.std.specs.Prelude.{Option, Some, None, option_map, if◌then◌else◌}
 use Rattle.pattern_check.specs.Shapes.{Head, arity_of}
-use Rattle.pattern_check.specs.Missing.{candidates}
+use Rattle.pattern_check.specs.Missing.{candidates, has_head}
 use Rattle.pattern_check.specs.Flat.{Part, open_parts, append_open, lists_where, list_heads, tail_of, or_list, first_list}
 use Rattle.pattern_check.specs.Flat.{found_where, found_in}
 use Rattle.pattern_check.specs.Starts.{start_view, starts_view, row_view, rows_view}
@@ -10,6 +10,13 @@ use Rattle.pattern_check.specs.declared.search.Task.{Task}
 use Rattle.pattern_check.specs.declared.search.Frame.{Frame}
 use Rattle.pattern_check.specs.declared.search.Look.{Look}
 use Rattle.pattern_check.specs.declared.search.Look.TheVariants as look
+
+-- Of the candidates those that are tried in a column whose shapes begin with these: each that some row begins with, and
+-- the first of the others, if none was seen before. It leaves something out exactly when they do.
+abbrev pub tried : Bool → List Head → List Head → List Head
+tried seen hs [] = []
+tried seen hs (c ∷ cs) =
+    if has_head c hs then c ∷ tried seen hs cs else (if seen then tried true hs cs else c ∷ tried true hs cs)
 
 -- what a task finds
 abbrev pub task_found : Task → Option (List Part)

@@ -1,9 +1,10 @@
 //! The first column of rows.
 
-ghost use Rattle.std.specs.Prelude.{◌≡◌, IfOk, List, ◌∷◌, [], map, option_map};
+ghost use Rattle.std.specs.Prelude.{◌≡◌, IfOk, List, ◌∷◌, [], map, option_map, false};
 ghost use Rattle.pattern_check.specs.Shapes as shapes;
 ghost use Rattle.pattern_check.specs.Missing as missing;
 ghost use Rattle.pattern_check.specs.Flat as flat;
+ghost use Rattle.pattern_check.specs.Search as search;
 ghost use Rattle.pattern_check.specs.Starts.{start_view, starts_view, list_starts, parts_view, row_view, rows_view};
 
 use crate::row::{Row, first, rest_of, row_where};
@@ -167,6 +168,46 @@ pub fn candidates<'a>(
             UnionShape::Declared(_, _, alternatives) => constructors(alloc, union, alternatives),
         },
     }
+}
+
+/// Whether some row begins so.
+fn is_asked(start: Start<'_>, rows: &[Row<'_, '_>]) -> bool
+    ensures { result ≡ missing.has_head (start_view start.entry) (flat.list_heads (rows_view rows.now)) }
+{
+    let mut rest = rows;
+    while let [row, others @ ..] = rest {
+        if let Some(Some(own)) = first(*row) {
+            if same_start(own, start) {
+                return true;
+            }
+        }
+        rest = others;
+    }
+    false
+}
+
+/// The candidates that are tried: each that some row begins with, and the first of the others.
+pub fn tried<'a>(
+    alloc: Global,
+    candidates: &[Start<'a>],
+    rows: &[Row<'_, 'a>],
+) -> Result<Vec<Start<'a>>, AllocError>
+    ensures { IfOk result (λ out. starts_view out.items
+        ≡ search.tried false (flat.list_heads (rows_view rows.now)) (starts_view candidates.now)) }
+{
+    let mut out = Vec::new(alloc);
+    let mut seen = false;
+    let mut rest = candidates;
+    while let [start, others @ ..] = rest {
+        if is_asked(*start, rows) {
+            out.push(*start)?;
+        } else if !seen {
+            out.push(*start)?;
+            seen = true;
+        }
+        rest = others;
+    }
+    Ok(out)
 }
 
 /// The one start.

@@ -6,7 +6,7 @@ ghost use Rattle.pattern_check.specs.Starts.{start_view, starts_view, part_view,
 ghost use Rattle.pattern_check.specs.Search.{from_last, task_found, next_found, frame_try, frames_found, look_found, IsDone};
 ghost use Rattle.pattern_check.specs.Search.{work_at, work_in, task_work, next_work, frame_step, frames_work, look_work};
 
-use crate::column::{candidates, first_start, rests, rows_where, some_open};
+use crate::column::{candidates, first_start, rests, rows_where, some_open, tried};
 use crate::row::{Row, after_open, first, rest_of};
 use crate::start::{Start, arity};
 use std::alloc::{AllocError, Global};
@@ -36,7 +36,7 @@ pub struct Frame<'t, 'a> {
     pub candidates: Vec<Start<'a>>,
 }
 
-/// What a task comes to at once.
+/// What is known of a task at once.
 #[derive(Drop)]
 pub enum Look<'t, 'a> {
     /// So many open parts are missing.
@@ -84,7 +84,8 @@ fn pass<'t, 'a>(
             }));
         }
         if let Some(start) = first_start(&rows) {
-            let tried = candidates(alloc, start, &rows)?;
+            let all = candidates(alloc, start, &rows)?;
+            let tried = tried(alloc, &all, &rows)?;
             return Ok(Look::Split(Frame {
                 opens,
                 bound,
@@ -109,7 +110,7 @@ fn pass<'t, 'a>(
     }
 }
 
-/// What the task comes to at once.
+/// What is known of the task at once.
 fn looked_at<'t, 'a>(alloc: Global, task: Task<'t, 'a>) -> Result<Look<'t, 'a>, AllocError>
     ensures found { IfOk result (λ l. look_found l ≡ task_found task.entry) }
     ensures light { IfOk result (λ l. look_work l ≤ task_work task.entry) }

@@ -10,7 +10,7 @@ returns c =
     let q = row_view c.args.wanted in
     let rows = c.args.rows.now in
     let b : c.in-Some-checked_add.bound ≡ suc (count_of q + total_of (rows_view rows)) =
-    omega (arith, c.in-Some.ensures, c.in-Some-checked_add.ensures, c.in_ok-row_count.ensures, c.in_ok-total.ensures) in
+    omega (arith, c.in-Some.ensures, c.in-Some-checked_add.ensures, c.in_ok-row_count.ensures, c.requires) in
     IfOk-weaker c.search.result _ _
     (λ r h. h ∙ ap (λ z. found_in z q (rows_view c.in_ok-copied.field-0.items)) b
     ∙ ap (λ z. found_in (suc (count_of q + total_of (rows_view rows))) q (rows_view z)) c.in_ok-copied.ensures) c.search.ensures

@@ -1,4 +1,4 @@
-use Rattle.std.proofs.Common.{◌∷◌, [], Some, sym, ap, ◌∙◌}
+use Rattle.std.proofs.Common.{◌∷◌, [], Some, map, sym, ap, ◌∙◌}
 use Rattle.std.specs.Prelude.{option_map}
 use Rattle.pattern_check.specs.Starts.{parts_view}
 use Rattle.pattern_check.specs.Built.{unlisted}
@@ -14,11 +14,11 @@ pub returns-in_default : goal.returns-in_default
 returns-in_default c =
     ap (option_map pattern_text)
     (ap (λ z. reported (option_map (λ parts. parts_view parts.items) z)) (sym c.in_default.is)
-    ∙ parts_missing (λ parts. parts_view parts.items) c.in_ok-parts.field-0 c.args.patterns.now c.in_ok-parts.ensures)
+    ∙ parts_missing (λ parts. parts_view parts.items) c.in_ok-parts.field-0 (map (λ p. p.now) c.args.patterns.now) c.in_ok-parts.ensures)
 
 pub returns : goal.returns
 returns c =
     ap Some (c.from_vec.ensures ∙ c.in_ok-text.ensures
     ∙ ap (λ z. pending (rest Parts 1 Nothing ∷ []) (unlisted (parts_view z) [])) c.deref.ensures.value)
-    ∙ written_missing c.args.patterns.now (parts_view c.in-Some.parts.items)
+    ∙ written_missing (map (λ p. p.now) c.args.patterns.now) (parts_view c.in-Some.parts.items)
     (sym c.in_ok-parts.ensures ∙ ap (option_map (λ parts. parts_view parts.items)) c.in-Some.is)

@@ -10,4 +10,4 @@ returns c =
     IfOk-weaker c.redundant_rows.result _ _
     (λ places h. h ∙ ap (λ z. redundant_list 0 [] (rows_view z)) c.deref-2.ensures.value
     ∙ ap (redundant_list 0 []) (c.in_ok-rows.ensures ∙ ap (map (λ v. parts_view v.items)) c.deref.ensures.value ∙ c.in_ok-lists.ensures)
-    ∙ redundant_patterns c.args.patterns.now) c.redundant_rows.ensures
+    ∙ redundant_patterns (map (λ p. p.now) c.args.patterns.now)) c.redundant_rows.ensures

@@ -1,0 +1,4 @@
+pub mod Sites
+pub mod Faults
+pub mod Laws
+pub mod Links

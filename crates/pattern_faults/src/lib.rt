@@ -1,0 +1,6 @@
+//! The faults of patterns in a module.
+#![tactic(auto)]
+
+pub mod laws;
+pub mod sites;
+pub mod walk;
