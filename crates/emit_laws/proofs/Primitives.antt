@@ -69,10 +69,10 @@ modulo_same m x = go (numbers.is_zero m) (numbers.are_opposite (int_rem x m) m)
     go false false = both_give for_int
 
 unit_same : (i : ℤ) (t : List ℕ) → EndFor For (then_do (texts.unit_at i t) (λ u. Val (IntV u))) (js_texts.unit_at i t)
-unit_same i [] = any_stuck
+unit_same i [] = any_unsafe
 unit_same (pos zero) (u ∷ us) = both_give for_int
 unit_same (pos (suc i)) (u ∷ us) = unit_same (pos i) us
-unit_same (negsuc i) (u ∷ us) = any_stuck
+unit_same (negsuc i) (u ∷ us) = any_unsafe
 
 pub primitive_same : (p : Primitive) {vs : Values} {ws : JVals} → ForAll vs ws → EndFor For (primitive p vs) (j_help (helper p) ws)
 primitive_same source.Crash (for_more for_text for_none) = both_crash

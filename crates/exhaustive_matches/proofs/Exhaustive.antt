@@ -163,7 +163,7 @@ AllPass ps v env = AllByRecursion (λ p. matches p v env ≡ Val None) ps
 
 module _ (w : World) (sound : IsSound w) where
   shape_of_type : (g : Ground) (q : Pattern) → IsPatternOf w g q → OfType w (shape_of q) g
-  shape_of_type g q t = subst (OfType w (shape_of q)) t.is (pattern_shape w sound q t.is_pattern t.here t.place t.wanted t.frame t.solves)
+  shape_of_type g q t = subst (OfType w (shape_of q)) t.is (pattern_shape w sound t.known t.is_known q t.is_pattern t.here t.place t.wanted t.frame t.solves)
 
   -- no value is passed over by patterns that leave nothing out
   pub none_passed : (ps : List Pattern) (v : Value) (g : Ground) (env : Env) → AllByRecursion (IsPatternOf w g) ps → missing ps ≡ None → Has w v g

@@ -19,7 +19,7 @@ use Rattle.type_items.specs.Scopes.{Scope}
 use Rattle.type_items.specs.Patterns.{bind_pattern}
 use Rattle.pattern_check.proofs.Members.{first_member, later_member}
 use Rattle.typed_values.specs.Frames.{Frame}
-use Rattle.typed_values.specs.World.{World, IsSound}
+use Rattle.typed_values.specs.World.{KnownIn, World, IsSound}
 use Rattle.typed_values.specs.Typed.{EndsWell, Has, Fits, Members, Stages, or_named, hides}
 use Rattle.typed_values.specs.Steps.{IfMatched}
 use Rattle.typed_values.specs.Exhaustive.{IsPatternOf}
@@ -143,7 +143,7 @@ members_hidden w s (MoreFunction title qs e fs) U S f h = (
   members_hidden w s fs (or_named title.name U) S f (or_hidden title.name U h),
 )
 
-fits_hidden : (w : World) (env : Env) (U : Ref → Bool) (S : Scope) (f : Frame) → S.known ≡ w.known → AllHidden U → Fits w env U S f
+fits_hidden : (w : World) (env : Env) (U : Ref → Bool) (S : Scope) (f : Frame) → KnownIn w S.known → AllHidden U → Fits w env U S f
 fits_hidden w Nil U S f k h = (k, λ x entry e. h x)
 fits_hidden w (Bind x v env) U S f k h = ((λ n entry e. not_both (U x) (h x) n), fits_hidden w env (or_named x U) S f k (or_hidden x U h))
 fits_hidden w (BindGroup fs env) U S f k h =
@@ -165,7 +165,7 @@ module _ (w : World) (sound : IsSound w) where
   decided g p v env t has = go (matches p v env) refl (match_plain p v env) well
     where
       S : Scope
-      S = record { known = w.known; names = []; constants = [] }
+      S = record { known = t.known; names = []; constants = [] }
 
       U : Ref → Bool
       U x = true
@@ -173,7 +173,7 @@ module _ (w : World) (sound : IsSound w) where
       well : EndsWell (IfMatched (λ inner. Fits w inner U (bind_pattern p t.place t.wanted S) t.frame)) (matches p v env)
       well =
           match_good w (steps_keep_types w sound) U t.frame t.stands p t.is_pattern v env S t.here t.place t.wanted t.solves
-          (subst (λ h. Has w v h) (sym t.is) has) (fits_hidden w env U S t.frame refl (λ x. refl))
+          (subst (λ h. Has w v h) (sym t.is) has) (fits_hidden w env U S t.frame t.is_known (λ x. refl))
 
       go : (o : End (Option Env)) → matches p v env ≡ o → Plain o → EndsWell (IfMatched (λ inner. Fits w inner U (bind_pattern p t.place t.wanted S) t.frame)) o
           → (matches p v env ≡ Val None) ⊎ Matched p v env

@@ -16,8 +16,10 @@ use Rattle.elm_canon.specs.Tree.{NoPattern, MorePattern}
 use Rattle.elm_proper.specs.Constructors as proper
 use Rattle.elm_meaning.specs.Seen as seen
 use Rattle.elm_meaning.specs.Values.{Value, IntV, TextV, TagV, RecordV, CloV, KnownV, WireV, Values, NoValue, MoreValue, count_of}
-use Rattle.elm_type.specs.Types.{Leaf, Made, int_type, char_type, string_type, list_type, tuple, types_of}
-use Rattle.elm_type.specs.Classes.{Ground, is_char}
+use Rattle.elm_type.specs.Types.{Leaf, Made, int_type, char_type, string_type, list_type, tuple, named, types_of}
+use Rattle.elm_type.specs.Classes.{Ground, meets, is_char}
+use Rattle.elm_type.specs.declared.class.Class.TheVariants.{Number as Numbers}
+use Rattle.type_items.specs.Scopes.{Known}
 use Rattle.elm_type.specs.Rows.{substitute}
 use Rattle.type_items.specs.Items.{Place, Wanted, Same, child, children, at}
 use Rattle.type_items.specs.Patterns.{shape, shape_items, list_parts, literal_type, pattern_items, patterns_items}
@@ -30,13 +32,14 @@ use Rattle.pattern_check.proofs.Members.{first_member, later_member, member_map}
 use Rattle.pattern_check.proofs.Heads.{member_is_one}
 use Rattle.typed_values.specs.Frames.{Frame, of}
 use Rattle.typed_values.specs.World as world
-use Rattle.typed_values.specs.World.{World, Among, Declares, made_type, MadeBy, IsSound}
+use Rattle.typed_values.specs.World.{World, KnownIn, Among, Declares, variables_of, made_type, MadeBy, OfPort, IsPorted, IsSound}
 use Rattle.typed_values.specs.Typed.{Has, HasEach}
 use Rattle.typed_values.specs.Simple.{IsPattern, ArePatterns}
 use Rattle.typed_values.proofs.Names.{not_both, solves_left, solves_right}
 use Rattle.typed_values.proofs.Keeping.{and_left}
 use Rattle.typed_values.proofs.Patterns.{up, no_nonsense}
-use Rattle.typed_values.proofs.Forms.{Ints, Texts, Tags, form, each_count, union_form}
+use Rattle.typed_values.proofs.Rows.{extend_none}
+use Rattle.typed_values.proofs.Forms.{Ints, Texts, Tags, Calls, form, form_of, number_form, value_form, each_count, union_form}
 use Rattle.typed_values.proofs.Unions.{map_length, choice, shape_of_declared, fields_same, no_list}
 use Rattle.typed_values.proofs.Makers.{tag_itself, types_same, of_tuple, tuple_arity, children_length}
 
@@ -84,21 +87,37 @@ abbrev has_char : Ground → Bool
 has_char (Made h ts) = is_char h
 has_char _ = false
 
-same_literals : (l m : Literal) → literal_ground l ≡ literal_ground m → shapes.same_kind l m ≡ true
-same_literals (literal.Int m) (literal.Int n) e = refl
-same_literals (literal.Char s) (literal.Char t) e = refl
-same_literals (literal.Text s) (literal.Text t) e = refl
-same_literals (literal.Int m) (literal.Char t) e = absurd (let z : Ints ≡ Texts = ap form e in cc)
-same_literals (literal.Int m) (literal.Text t) e = absurd (let z : Ints ≡ Texts = ap form e in cc)
-same_literals (literal.Char s) (literal.Int n) e = absurd (let z : Texts ≡ Ints = ap form e in cc)
-same_literals (literal.Text s) (literal.Int n) e = absurd (let z : Texts ≡ Ints = ap form e in cc)
-same_literals (literal.Char s) (literal.Text t) e = not_both true refl (ap has_char e)
-same_literals (literal.Text s) (literal.Char t) e = not_both true refl (sym (ap has_char e))
+-- a literal is of the type
+abbrev pub IsLiteralOf : Literal → Ground → Type 0
+IsLiteralOf (literal.Int n) g = meets Numbers g ≡ true
+IsLiteralOf (literal.Char us) g = char_type ≡ g
+IsLiteralOf (literal.Text us) g = string_type ≡ g
 
-literal_no_tag : {X : Type 0} (l : Literal) → form (literal_ground l) ≡ Tags → X
-literal_no_tag (literal.Int n) e = absurd (let z : Ints ≡ Tags = e in cc)
-literal_no_tag (literal.Char us) e = absurd (let z : Texts ≡ Tags = e in cc)
-literal_no_tag (literal.Text us) e = absurd (let z : Texts ≡ Tags = e in cc)
+literal_is : (l : Literal) (g : Ground) → literal_ground l ≡ g → IsLiteralOf l g
+literal_is (literal.Int n) g e = subst (λ h. meets Numbers h ≡ true) e refl
+literal_is (literal.Char us) g e = e
+literal_is (literal.Text us) g e = e
+
+literal_form : (l : Literal) (g : Ground) → IsLiteralOf l g → form g ≡ form (literal_ground l)
+literal_form (literal.Int n) g e = number_form g e
+literal_form (literal.Char us) g e = sym (ap form e)
+literal_form (literal.Text us) g e = sym (ap form e)
+
+same_literals : (l m : Literal) (g : Ground) → IsLiteralOf l g → IsLiteralOf m g → shapes.same_kind l m ≡ true
+same_literals (literal.Int m) (literal.Int n) g e f = refl
+same_literals (literal.Char s) (literal.Char t) g e f = refl
+same_literals (literal.Text s) (literal.Text t) g e f = refl
+same_literals (literal.Int m) (literal.Char t) g e f = absurd (let z : Ints ≡ Texts = sym (number_form g e) ∙ sym (ap form f) in cc)
+same_literals (literal.Int m) (literal.Text t) g e f = absurd (let z : Ints ≡ Texts = sym (number_form g e) ∙ sym (ap form f) in cc)
+same_literals (literal.Char s) (literal.Int n) g e f = absurd (let z : Ints ≡ Texts = sym (number_form g f) ∙ sym (ap form e) in cc)
+same_literals (literal.Text s) (literal.Int n) g e f = absurd (let z : Ints ≡ Texts = sym (number_form g f) ∙ sym (ap form e) in cc)
+same_literals (literal.Char s) (literal.Text t) g e f = not_both true refl (ap has_char (e ∙ sym f))
+same_literals (literal.Text s) (literal.Char t) g e f = not_both true refl (ap has_char (f ∙ sym e))
+
+literal_no_tag : {X : Type 0} (l : Literal) (g : Ground) → IsLiteralOf l g → form g ≡ Tags → X
+literal_no_tag (literal.Int n) g k e = absurd (let z : Ints ≡ Tags = sym (number_form g k) ∙ e in cc)
+literal_no_tag (literal.Char us) g k e = absurd (let z : Texts ≡ Tags = ap form k ∙ e in cc)
+literal_no_tag (literal.Text us) g k e = absurd (let z : Texts ≡ Tags = ap form k ∙ e in cc)
 
 -- ---- values
 
@@ -130,7 +149,7 @@ module _ (w : World) where
       × (of_leaf : Leaf ℕ → Ground) × (map (substitute of_leaf) c.fields ≡ parts) × (substitute of_leaf (made_type m x c) ≡ g)
 
   abbrev pub BeginsAt : Head → List Ground → Ground → Type 0
-  BeginsAt (Literally l) parts g = (literal_ground l ≡ g) × (parts ≡ [])
+  BeginsAt (Literally l) parts g = IsLiteralOf l g × (parts ≡ [])
   BeginsAt OtherLiteral parts g = ⊥
   BeginsAt (Constructor u alt) parts g = Builds u alt parts g
 
@@ -267,9 +286,9 @@ module _ (w : World) where
       shapes_proper (MoreShape s ss) (t ∷ ts) h = (shape_proper s t h.0, shapes_proper ss ts h.1)
 
     heads_join : (h k : Head) (ps qs : List Ground) (g : Ground) → BeginsAt h ps g → BeginsAt k qs g → IsAlike h k × (same_head h k ≡ true → ps ≡ qs)
-    heads_join (Literally l) (Literally m) ps qs g i j = (same_literals l m (i.0 ∙ sym j.0), λ _. i.1 ∙ sym j.1)
-    heads_join (Literally l) (Constructor v b) ps qs g i j = literal_no_tag l (ap form i.0 ∙ builds_form v b qs g j)
-    heads_join (Constructor u a) (Literally m) ps qs g i j = literal_no_tag m (ap form j.0 ∙ builds_form u a ps g i)
+    heads_join (Literally l) (Literally m) ps qs g i j = (same_literals l m g i.0 j.0, λ _. i.1 ∙ sym j.1)
+    heads_join (Literally l) (Constructor v b) ps qs g i j = literal_no_tag l g i.0 (builds_form v b qs g j)
+    heads_join (Constructor u a) (Literally m) ps qs g i j = literal_no_tag m g j.0 (builds_form u a ps g i)
     heads_join (Constructor u a) (Constructor v b) ps qs g i j = builds_join u v a b ps qs g i j
     heads_join OtherLiteral k ps qs g i j = absurd i
     heads_join (Literally l) OtherLiteral ps qs g i j = absurd j
@@ -294,46 +313,47 @@ module _ (w : World) where
 
     -- ---- the shape of a pattern
 
-    shape_builds : (u : Union) (alt : Alternative) (p : Place) (f : Frame) → Declares w u alt
-        → Builds u alt (map (of f) (shape u alt w.known p).parts) (of f (shape u alt w.known p).result)
-    shape_builds (TupleUnion n) alt p f d = (d, map_length (of f) (children p n) ∙ children_length p n, sym (of_tuple f (children p n)))
-    shape_builds ListUnion alt p f (inl d) =
+    shape_builds : (u : Union) (alt : Alternative) (known : Known) (p : Place) (f : Frame) → KnownIn w known → Declares w u alt
+        → Builds u alt (map (of f) (shape u alt known p).parts) (of f (shape u alt known p).result)
+    shape_builds (TupleUnion n) alt known p f is_known d = (d, map_length (of f) (children p n) ∙ children_length p n, sym (of_tuple f (children p n)))
+    shape_builds ListUnion alt known p f is_known (inl d) =
         (of f (at (child p 0)), refl, inl (d, ap (λ a. map (of f) (list_parts a.arity (at (child p 0)))) d))
-    shape_builds ListUnion alt p f (inr d) =
+    shape_builds ListUnion alt known p f is_known (inr d) =
         (of f (at (child p 0)), refl, inr (d, ap (λ a. map (of f) (list_parts a.arity (at (child p 0)))) d))
-    shape_builds (Declared m x cs) alt p f d =
-        let s = shape_of_declared w sound m x d.1 alt w.known f p d.2 d.3 refl in
+    shape_builds (Declared m x cs) alt known p f is_known d =
+        let s = shape_of_declared w sound m x d.1 alt known f p d.2 d.3 is_known in
         (d.0, d.1, d.2, d.3, choice f p, sym s.parts, sym s.result)
 
-    mutual
-      pub pattern_shape : (q : Pattern) → IsPattern w q → (here : Pos) (p : Place) (t : Wanted) (f : Frame) → Solves f.values (pattern_items q w.known here p t)
-          → OfType (shape_of q) (of f t)
-      pattern_shape Anything proper here p t f sol = tt
-      pattern_shape (Named x) proper here p t f sol = tt
-      pattern_shape (As q x) proper here p t f sol = pattern_shape q proper here p t f sol
-      pattern_shape (Exactly l) proper here p t f sol = ([], (literal_of f l ∙ up f (literal_type l) t sol.0, refl), tt)
-      pattern_shape (Construct u alt qs) proper here p t f sol =
-          let asked = shape_items u alt w.known here (child p 0) in
-          let s = shape u alt w.known (child p 0) in
-          let rest = solves_right f asked (Same here s.result t ∷ patterns_items qs w.known here (child p 1) 0 s.parts) sol in (
-            map (of f) s.parts,
-            subst (Builds u alt (map (of f) s.parts)) (up f s.result t rest.0) (shape_builds u alt (child p 0) f proper.0),
-            pattern_shapes qs proper.2 here (child p 1) 0 s.parts f rest.1,
-          )
-      pattern_shape (FieldsOf xs) proper here p t f sol = tt
-      pattern_shape (LocatedPattern start q) proper here p t f sol = pattern_shape q proper start p t f sol
+    module _ (known : Known) (is_known : KnownIn w known) where
+      mutual
+        pub pattern_shape : (q : Pattern) → IsPattern w q → (here : Pos) (p : Place) (t : Wanted) (f : Frame) → Solves f.values (pattern_items q known here p t)
+            → OfType (shape_of q) (of f t)
+        pattern_shape Anything proper here p t f sol = tt
+        pattern_shape (Named x) proper here p t f sol = tt
+        pattern_shape (As q x) proper here p t f sol = pattern_shape q proper here p t f sol
+        pattern_shape (Exactly l) proper here p t f sol = ([], (literal_is l (of f t) (literal_of f l ∙ up f (literal_type l) t sol.0), refl), tt)
+        pattern_shape (Construct u alt qs) proper here p t f sol =
+            let asked = shape_items u alt known here (child p 0) in
+            let s = shape u alt known (child p 0) in
+            let rest = solves_right f asked (Same here s.result t ∷ patterns_items qs known here (child p 1) 0 s.parts) sol in (
+              map (of f) s.parts,
+              subst (Builds u alt (map (of f) s.parts)) (up f s.result t rest.0) (shape_builds u alt known (child p 0) f is_known proper.0),
+              pattern_shapes qs proper.2 here (child p 1) 0 s.parts f rest.1,
+            )
+        pattern_shape (FieldsOf xs) proper here p t f sol = tt
+        pattern_shape (LocatedPattern start q) proper here p t f sol = pattern_shape q proper start p t f sol
 
-      pattern_shapes : (qs : Patterns) → ArePatterns w qs → (here : Pos) (p : Place) (i : ℕ) (ts : List Wanted) (f : Frame) → Solves f.values (patterns_items qs w.known here p i ts)
-          → EachOfType (shapes_of qs) (map (of f) ts)
-      pattern_shapes NoPattern proper here p i [] f sol = tt
-      pattern_shapes NoPattern proper here p i (t ∷ ts) f sol = no_nonsense f here sol
-      pattern_shapes (MorePattern q qs) proper here p i [] f sol = no_nonsense f here sol
-      pattern_shapes (MorePattern q qs) proper here p i (t ∷ ts) f sol =
-          let first = pattern_items q w.known here (child p i) t in
-          let rest = patterns_items qs w.known here p (i + 1) ts in (
-            pattern_shape q proper.0 here (child p i) t f (solves_left f first rest sol),
-            pattern_shapes qs proper.1 here p (i + 1) ts f (solves_right f first rest sol),
-          )
+        pattern_shapes : (qs : Patterns) → ArePatterns w qs → (here : Pos) (p : Place) (i : ℕ) (ts : List Wanted) (f : Frame) → Solves f.values (patterns_items qs known here p i ts)
+            → EachOfType (shapes_of qs) (map (of f) ts)
+        pattern_shapes NoPattern proper here p i [] f sol = tt
+        pattern_shapes NoPattern proper here p i (t ∷ ts) f sol = no_nonsense f here sol
+        pattern_shapes (MorePattern q qs) proper here p i [] f sol = no_nonsense f here sol
+        pattern_shapes (MorePattern q qs) proper here p i (t ∷ ts) f sol =
+            let first = pattern_items q known here (child p i) t in
+            let rest = patterns_items qs known here p (i + 1) ts in (
+              pattern_shape q proper.0 here (child p i) t f (solves_left f first rest sol),
+              pattern_shapes qs proper.1 here p (i + 1) ts f (solves_right f first rest sol),
+            )
 
     -- ---- the shape of a value
 
@@ -348,23 +368,79 @@ module _ (w : World) where
         let cs = map (λ c. c.alternative) (w.unions m.home m.name) in
         (Declared m.home m.name cs, m.constructor_.alternative, (refl, m.constructor_, m.among, refl, m.choice, m.parts_are, m.is), m.tag_is)
 
+    -- what ports make: a carrier of a text and of what shows nothing of itself
+    shows_call : (x : Value) → form_of x ≡ Calls → Shows x Open
+    shows_call (IntV n) e = absurd (cc)
+    shows_call (TextV us) e = absurd (cc)
+    shows_call (TagV tag vs) e = absurd (cc)
+    shows_call (RecordV fs) e = tt
+    shows_call (CloV env qs b) e = tt
+    shows_call (KnownV k vs) e = tt
+    shows_call (WireV x) e = tt
+
+    abbrev carried_shapes : List ℕ → Shapes
+    carried_shapes port = MoreShape (Begins (Literally (literal.Text port)) NoShape) (MoreShape Open NoShape)
+
+    shows_carried : (vs rest : Values) (port : List ℕ) (carried : Ground) → vs ≡ MoreValue (TextV port) rest → form carried ≡ Calls → HasEach w vs (string_type ∷ carried ∷ []) → ShowEach vs (carried_shapes port)
+    shows_carried NoValue rest port carried e calls h = absurd h
+    shows_carried (MoreValue v NoValue) rest port carried e calls h = absurd h.1
+    shows_carried (MoreValue v (MoreValue x (MoreValue y vs))) rest port carried e calls h = absurd h.1.1
+    shows_carried (MoreValue v (MoreValue x NoValue)) rest port carried e calls h =
+        let v_is : v ≡ TextV port = cc in
+        let own : Shows v (Begins (Literally (literal.Text port)) NoShape) = subst (λ z. Shows z (Begins (Literally (literal.Text port)) NoShape)) (sym v_is) (inl refl) in
+        (Begins (Literally (literal.Text port)) NoShape, MoreShape Open NoShape, refl, own, (Open, NoShape, refl, shows_call x (sym (value_form w sound x carried h.1.0) ∙ calls), refl))
+
+    ported_shape : (m x : Name) (message g : Ground) → IsPorted w m x → named m x (message ∷ []) ≡ g → (tag : Tag) (vs rest : Values) (port : List ℕ) (carried : Ground) → tag ≡ Number (pos 0)
+        → vs ≡ MoreValue (TextV port) rest → form carried ≡ Calls → HasEach w vs (string_type ∷ carried ∷ []) → (s : Shape) × OfType s g × Shows (TagV tag vs) s
+    ported_shape m x message g ported is tag vs rest port carried tag_is begins calls h =
+        let c = ported.carrier.0 in
+        let among = ported.carrier.1 in
+        let k = ported.carrier.2 in
+        let cs = map (λ c. c.alternative) (w.unions m x) in
+        let parts = map (substitute (λ _. message)) c.fields in
+        let parts_are : parts ≡ string_type ∷ substitute (λ _. message) k.other ∷ [] = ap (map (substitute (λ _. message))) k.fields_are in
+        let made : substitute (λ _. message) (made_type m x c) ≡ g =
+        ap (λ ns. substitute (λ _. message) (named m x (variables_of ns))) k.arguments_are ∙ (ap (λ z. named m x (z ∷ [])) (extend_none message) ∙ is) in (
+          Begins (Constructor (Declared m x cs) c.alternative) (carried_shapes port),
+          (parts, (refl, c, among, refl, (λ _. message), refl, made), subst (EachOfType (carried_shapes port)) (sym parts_are) (([], (refl, refl), tt), (tt, tt))),
+          (
+            Declared m x cs,
+            c.alternative,
+            carried_shapes port,
+            refl,
+            k.tag_is ∙ sym tag_is,
+            each_count w vs (string_type ∷ carried ∷ []) h ∙ (sym (ap length k.fields_are) ∙ (sound.unions m x).counted c among),
+            shows_carried vs rest port carried begins calls h,
+          ),
+        )
+
+    port_shape : (tag : Tag) (vs : Values) (parts : List Ground) (g : Ground) → OfPort w tag vs parts g → HasEach w vs parts → (s : Shape) × OfType s g × Shows (TagV tag vs) s
+    port_shape tag vs parts g m h = elim m.carries [
+      | inl s ↦ ported_shape (codes "Platform.Cmd") (codes "Cmd") s.message g sound.commands s.is tag vs m.rest m.port m.carried m.tag_is m.begins
+          (ap form s.carried_is) (subst (HasEach w vs) m.parts_are h)
+      | inr l ↦ ported_shape (codes "Platform.Sub") (codes "Sub") l.message g sound.subscriptions l.is tag vs m.rest m.port m.carried m.tag_is m.begins
+          (ap form l.carried_is) (subst (HasEach w vs) m.parts_are h)
+    ]
+
     mutual
       pub value_shape : (v : Value) (g : Ground) → Has w v g → (s : Shape) × OfType s g × Shows v s
       value_shape (IntV n) g has = (Begins (Literally (literal.Int n)) NoShape, ([], (has, refl), tt), refl)
       value_shape (TextV us) g (inl has) = (Begins (Literally (literal.Text us)) NoShape, ([], (has, refl), tt), inl refl)
       value_shape (TextV us) g (inr has) = (Begins (Literally (literal.Char us)) NoShape, ([], (has, refl), tt), inr refl)
-      value_shape (TagV tag vs) g has =
-          let n = each_count w vs has.0 has.2 in
-          let b = made_builds tag vs has.0 g has.1 n in
-          let r = value_shapes vs has.0 has.2 in (
-            Begins (Constructor b.0 b.1) r.0,
-            (has.0, b.2, r.1),
-            (b.0, b.1, r.0, refl, b.3, n ∙ builds_arity b.0 b.1 has.0 g b.2, r.2),
-          )
+      value_shape (TagV tag vs) g has = elim has.1 [
+        | inl m ↦ (let n = each_count w vs has.0 has.2 in
+            let b = made_builds tag vs has.0 g m n in
+            let r = value_shapes vs has.0 has.2 in (
+              Begins (Constructor b.0 b.1) r.0,
+              (has.0, b.2, r.1),
+              (b.0, b.1, r.0, refl, b.3, n ∙ builds_arity b.0 b.1 has.0 g b.2, r.2),
+            ))
+        | inr m ↦ port_shape tag vs has.0 g m has.2
+      ]
       value_shape (RecordV fs) g has = (Open, tt, tt)
       value_shape (CloV env qs e) g has = (Open, tt, tt)
       value_shape (KnownV k vs) g has = (Open, tt, tt)
-      value_shape (WireV wire) g has = absurd has
+      value_shape (WireV wire) g has = (Open, tt, tt)
 
       value_shapes : (vs : Values) (ts : List Ground) → HasEach w vs ts → (ss : Shapes) × EachOfType ss ts × ShowEach vs ss
       value_shapes NoValue [] has = (NoShape, tt, refl)

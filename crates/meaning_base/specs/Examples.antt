@@ -1,7 +1,7 @@
 -- Numbers, texts and members, worked out.
 use Rattle.std.specs.Prelude.{◌≡◌, pos, negsuc, [], true, codes}
 use Rattle.wire_value.specs.Wire.{null, bool, no_member, more_members}
-use Rattle.runs.specs.Ends.{Val, Crashed, Unsafe, Stuck}
+use Rattle.runs.specs.Ends.{Val, Crashed, Unsafe}
 use Rattle.meaning_base.specs.Numbers.{add, negate, quotient, remainder, modulo, and_bits, xor_bits, not_bits}
 use Rattle.meaning_base.specs.Numbers.{shift_left, shift_right, shift_right_zero}
 use Rattle.meaning_base.specs.Texts.{units_lt, unit_at, slice, find_in, unit_of}
@@ -35,7 +35,7 @@ pub record Examples : Type 0 where
   pub front_before : units_lt (codes "ab") (codes "abc") ≡ true
   -- places are counted from 0, or from the end below 0
   pub second : unit_at (pos 1) (codes "abc") ≡ Val (pos 98)
-  pub past_the_end : unit_at (pos 3) (codes "abc") ≡ Stuck
+  pub past_the_end : unit_at (pos 3) (codes "abc") ≡ Unsafe
   pub end_of_text : slice (negsuc 1) (pos 9) (codes "abc") ≡ codes "bc"
   pub found : find_in (codes "c") (negsuc 2) (codes "abc") ≡ pos 2
   pub empty_found : find_in [] (pos 5) (codes "abc") ≡ pos 3

@@ -12,7 +12,7 @@ use Rattle.elm_canon.specs.Tree.{Annotations, NoAnnotation, MoreAnnotation, Fiel
 use Rattle.elm_type.specs.Types.{Name, ElmType, ElmTypes, Fields, End, Closed, Over, Made, Record, NoType, MoreType, NoField}
 use Rattle.elm_type.specs.Types.{MoreField, end_variables, variables, variables_all, variables_fields, variable, function}
 use Rattle.elm_type.specs.Types.{Rigid, kind_at, Free, Fixed}
-use Rattle.elm_type.specs.Classes.{Ground, meets, is_any}
+use Rattle.elm_type.specs.Classes.{Ground, meets}
 use Rattle.elm_type.specs.Rows.{insert_field, insert_all, extend, at_end, substitute, substitute_all, substitute_fields}
 use Rattle.elm_type.specs.declared.head.Head.TheVariants as head
 use Rattle.ground_types.specs.Ground.{contains, fits, lacks_all, value, leaf_value}
@@ -200,7 +200,7 @@ module _ (θ ω : Rigid → Ground) where
 
 -- ---- the frame of an instance: own constants stand for the types that are chosen, where these are of their kinds
 
-module _ (p : Place) (ann : Annotation) (own : List Name) (f : Frame) (stands : Stands f) (choice : ℕ → Ground) (bare : (i : ℕ) → variables (choice i) ≡ []) where
+module _ (p : Place) (ann : Annotation) (own : List Name) (f : Frame) (stands : Stands f) (choice : ℕ → Ground) where
   abbrev is_own : Rigid → Bool
   is_own r = bytes_eq r.place p && contains r.name own
 
@@ -219,22 +219,16 @@ module _ (p : Place) (ann : Annotation) (own : List Name) (f : Frame) (stands : 
       (and_right (is_own r) (fits (kind_of r) (choice (number_of r.name own))) e)
   chosen_class r false e = stands.classes r
 
-  chosen_rest : (r : Rigid) (b : Bool) → is_any r.class ≡ true → (is_own r && fits (kind_of r) (choice (number_of r.name own))) ≡ b → lacks_all r.lacks (picked r b) ≡ true
-  chosen_rest r true any e =
+  chosen_rest : (r : Rigid) (b : Bool) → (is_own r && fits (kind_of r) (choice (number_of r.name own))) ≡ b → lacks_all r.lacks (picked r b) ≡ true
+  chosen_rest r true e =
       and_right (meets r.class (choice (number_of r.name own))) (lacks_all r.lacks (choice (number_of r.name own)))
       (and_right (is_own r) (fits (kind_of r) (choice (number_of r.name own))) e)
-  chosen_rest r false any e = stands.rests r any
-
-  chosen_bare : (r : Rigid) (b : Bool) → variables (picked r b) ≡ []
-  chosen_bare r true = bare (number_of r.name own)
-  chosen_bare r false = stands.bare r
+  chosen_rest r false e = stands.rests r
 
   pub instance_stands : Stands instance_frame
   instance_stands = record {
-    bare = λ r. chosen_bare r (is_own r && fits (kind_of r) (choice (number_of r.name own)));
     classes = λ r. chosen_class r (is_own r && fits (kind_of r) (choice (number_of r.name own))) refl;
-    rests = λ r any. chosen_rest r (is_own r && fits (kind_of r) (choice (number_of r.name own))) any refl;
-    one_kind = stands.one_kind;
+    rests = λ r. chosen_rest r (is_own r && fits (kind_of r) (choice (number_of r.name own))) refl;
   }
 
   -- a constant that is none of the own ones stands for what it stood for
@@ -311,20 +305,20 @@ pub instantiated : (S : Scope) (pos : Pos) (p : Place) (ann : Annotation) (f g :
 instantiated S pos p ann f g choice stands agree picks sol =
     let own = own_variables S.constants ann in
     let fixed = map (λ r. variable (Fixed r.1)) S.constants in
-    let θ = chosen p ann own f stands choice picks.bare in
-    let each = agree_each p ann own f stands choice picks.bare (outer_types S) (λ a c. kept_all f.values pos p ann (outer_types S) own a sol c) in
+    let θ = chosen p ann own f stands choice in
+    let each = agree_each p ann own f stands choice (outer_types S) (λ a c. kept_all f.values pos p ann (outer_types S) own a sol c) in
     let same : AllByRecursion (λ c. θ c.1 ≡ f.stands c.1) S.constants =
-    agree_constants p ann own f stands choice picks.bare S.constants (all_right (λ t. of (instance_frame p ann own f stands choice picks.bare) t ≡ of f t) (one_types S.names) fixed each) in
+    agree_constants p ann own f stands choice S.constants (all_right (λ t. of (instance_frame p ann own f stands choice) t ≡ of f t) (one_types S.names) fixed each) in
     let inner = own_constants S.constants p ann ++ S.constants in
     let h : Name → Ground = λ a. substitute θ (value f.values (fixed_variable inner p a)) in
     let k : Name → Ground = λ a. substitute (instance_leaf choice g) (scheme_variable S.constants ann a) in
     let pointwise : (a : Name) → contains a (written ann) ≡ true → h a ≡ k a = λ a w. go a w (lookup (bytes_eq a) S.constants) refl same in
     record {
-      frame = instance_frame p ann own f stands choice picks.bare;
+      frame = instance_frame p ann own f stands choice;
       values = refl;
-      stands = instance_stands p ann own f stands choice picks.bare;
+      stands = instance_stands p ann own f stands choice;
       agree = record {
-        types = all_left (λ t. of (instance_frame p ann own f stands choice picks.bare) t ≡ of f t) (one_types S.names) fixed each;
+        types = all_left (λ t. of (instance_frame p ann own f stands choice) t ≡ of f t) (one_types S.names) fixed each;
         constants = same;
       };
       is = ap (substitute θ) (annotation_substituted (leaf_value f.values) (fixed_variable inner p) ann)
@@ -333,26 +327,26 @@ instantiated S pos p ann f g choice stands agree picks sol =
     }
   where
     go : (a : Name) → contains a (written ann) ≡ true → (o : Option Rigid) → lookup (bytes_eq a) S.constants ≡ o
-        → AllByRecursion (λ c. chosen p ann (own_variables S.constants ann) f stands choice picks.bare c.1 ≡ f.stands c.1) S.constants
-        → substitute (chosen p ann (own_variables S.constants ann) f stands choice picks.bare) (value f.values (fixed_variable (own_constants S.constants p ann ++ S.constants) p a))
+        → AllByRecursion (λ c. chosen p ann (own_variables S.constants ann) f stands choice c.1 ≡ f.stands c.1) S.constants
+        → substitute (chosen p ann (own_variables S.constants ann) f stands choice) (value f.values (fixed_variable (own_constants S.constants p ann ++ S.constants) p a))
         ≡ substitute (instance_leaf choice g) (scheme_variable S.constants ann a)
     go a w None e same =
         let own = own_variables S.constants ann in
-        let θ = chosen p ann own f stands choice picks.bare in
+        let θ = chosen p ann own f stands choice in
         let c = constant p ann a in
         let has : contains a own ≡ true = those_have S.constants a (once (written ann) []) (once_has a (written ann) [] w refl) e in
         let l : fixed_variable (own_constants S.constants p ann ++ S.constants) p a ≡ variable (Fixed c) = ap (λ o. constant_or o (at p)) (rigid_own p ann S.constants a own has) in
         let r : scheme_variable S.constants ann a ≡ variable (Free (number_of a own)) = ap (λ o. constant_or o (variable (Free (number_of a own)))) e in
         let fit : fits (kind_of c) (choice (number_of a own)) ≡ true = ap (λ kd. fits kd (choice (number_of a own))) (sym (kind_number ann own a has)) ∙ picks.kinds (number_of a own) in
-        let test : (is_own p ann own f stands choice picks.bare c && fits (kind_of c) (choice (number_of a own))) ≡ true =
-        and_both (is_own p ann own f stands choice picks.bare c) (fits (kind_of c) (choice (number_of a own))) (and_both (bytes_eq p p) (contains a own) (itself p) has) fit in
-        let chosen_c : θ c ≡ choice (number_of a own) = ap (λ b. picked p ann own f stands choice picks.bare c b) test in
-        ap (λ t. substitute θ (value f.values t)) l ∙ (of_fixed p ann own f stands choice picks.bare θ c ∙ (chosen_c ∙ (sym (extend_none (choice (number_of a own))) ∙ ap (substitute (instance_leaf choice g)) (sym r))))
+        let test : (is_own p ann own f stands choice c && fits (kind_of c) (choice (number_of a own))) ≡ true =
+        and_both (is_own p ann own f stands choice c) (fits (kind_of c) (choice (number_of a own))) (and_both (bytes_eq p p) (contains a own) (itself p) has) fit in
+        let chosen_c : θ c ≡ choice (number_of a own) = ap (λ b. picked p ann own f stands choice c b) test in
+        ap (λ t. substitute θ (value f.values t)) l ∙ (of_fixed p ann own f stands choice θ c ∙ (chosen_c ∙ (sym (extend_none (choice (number_of a own))) ∙ ap (substitute (instance_leaf choice g)) (sym r))))
     go a w (Some r) e same =
         let own = own_variables S.constants ann in
-        let θ = chosen p ann own f stands choice picks.bare in
+        let θ = chosen p ann own f stands choice in
         let has : contains a own ≡ false = none_have S.constants a (once (written ann) []) r e in
         let l : fixed_variable (own_constants S.constants p ann ++ S.constants) p a ≡ variable (Fixed r) = ap (λ o. constant_or o (at p)) (rigid_around p ann S.constants a own has ∙ e) in
         let m : scheme_variable S.constants ann a ≡ variable (Fixed r) = ap (λ o. constant_or o (variable (Free (number_of a own)))) e in
-        ap (λ t. substitute θ (value f.values t)) l ∙ (of_fixed p ann own f stands choice picks.bare θ r ∙ (rigid_member (λ z. θ z ≡ f.stands z) S.constants a r same e
+        ap (λ t. substitute θ (value f.values t)) l ∙ (of_fixed p ann own f stands choice θ r ∙ (rigid_member (λ z. θ z ≡ f.stands z) S.constants a r same e
         ∙ (sym (rigid_member (λ z. g.stands z ≡ f.stands z) S.constants a r agree.constants e) ∙ (sym (extend_none (g.stands r)) ∙ ap (substitute (instance_leaf choice g)) (sym m)))))

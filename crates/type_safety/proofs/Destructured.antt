@@ -19,7 +19,7 @@ use Rattle.std.specs.Option.{option_or}
 use Rattle.elm_base.specs.declared.position.Pos.{Pos}
 use Rattle.type_items.specs.Scopes.{Entry, Mono, Known, Entries, Scope, elsewhere, entry_of}
 use Rattle.type_items.specs.Patterns.{shape, pattern_items, bind_pattern, field_names_before, pattern_names, patterns_names}
-use Rattle.typed_values.specs.World.{World}
+use Rattle.typed_values.specs.World.{KnownIn, World}
 use Rattle.type_items.specs.Solutions.{Solves}
 use Rattle.typed_values.specs.Frames.{Frame, of, Stands, Serves}
 use Rattle.typed_values.specs.Typed.{EndsWell, or_named, Has, Fits}
@@ -133,7 +133,7 @@ mutual
 
 module _ (W : World) (steps : StepsKeepTypes W) where
   mutual
-    pub names_has : (q : Pattern) → IsPattern W q → (known : Known) (p : Place) (t : Wanted) (rest : Entries) (y : Ref) → known ≡ W.known → among y (bound_by q) ≡ true
+    pub names_has : (q : Pattern) → IsPattern W q → (known : Known) (p : Place) (t : Wanted) (rest : Entries) (y : Ref) → KnownIn W known → among y (bound_by q) ≡ true
         → (u : Wanted) × (at_name y (pattern_names q known p t rest) ≡ Some (Mono u))
     names_has Anything proper known p t rest y k e = not_both false e refl
     names_has (NamedPattern x) proper known p t rest y k e = (t, stop y (Local x) (Mono t) rest (among_head y (Local x) [] e refl))
@@ -152,7 +152,7 @@ module _ (W : World) (steps : StepsKeepTypes W) where
     names_has (FieldsOf xs) proper known p t rest y k e = fields_has xs (child p 1) 0 rest y e
     names_has (LocatedPattern start q) proper known p t rest y k e = names_has q proper known p t rest y k e
 
-    all_names_has : (qs : Patterns) → ArePatterns W qs → (known : Known) (p : Place) (i : ℕ) (ts : List Wanted) (rest : Entries) (y : Ref) → known ≡ W.known → length ts ≡ count_of qs
+    all_names_has : (qs : Patterns) → ArePatterns W qs → (known : Known) (p : Place) (i : ℕ) (ts : List Wanted) (rest : Entries) (y : Ref) → KnownIn W known → length ts ≡ count_of qs
         → among y (all_bound_by qs) ≡ true → (u : Wanted) × (at_name y (patterns_names qs known p i ts rest) ≡ Some (Mono u))
     all_names_has NoPattern proper known p i ts rest y k n e = not_both false e refl
     all_names_has (MorePattern q qs) proper known p i [] rest y k n e = absurd (let z : 0 ≡ suc (count_of qs) = n in omega arith)
@@ -369,7 +369,7 @@ bound_local q (Top m x) e = not_both (among (Top m x) (bound_by q)) e (top_unbou
 
 -- what a pattern binds of a typed value
 pub binds_typed : (W : World) (steps : StepsKeepTypes W) (q : Pattern) → IsPattern W q → (v : Value) (b : Binds q v) (known : Known) (start : Pos) (p : Place) (t : Wanted) (g : Frame) (x : Ref) (u : Wanted)
-    → known ≡ W.known → Stands g → Solves g.values (pattern_items q known start p t) → Has W v (of g t) → among x (bound_by q) ≡ true
+    → KnownIn W known → Stands g → Solves g.values (pattern_items q known start p t) → Has W v (of g t) → among x (bound_by q) ≡ true
     → at_name x (pattern_names q known p t []) ≡ Some (Mono u) → EndsWell (λ w. Has W w (of g u)) (lookup x (bind_all b.binds Nil))
 binds_typed W steps q proper v b known start p t g x u same stands sol has own named =
     let S : Scope = record { known = known; names = []; constants = [] } in

@@ -42,7 +42,7 @@ all_among P [] x h m = absurd m
 all_among P (y ∷ xs) x h (inl e) = subst P (sym e) h.0
 all_among P (y ∷ xs) x h (inr m) = all_among P xs x h.1 m
 
-all_from : {X : Type 0} (P : X → Type 0) (xs : List X) → ((x : X) → Among x xs → P x) → AllByRecursion P xs
+pub all_from : {X : Type 0} (P : X → Type 0) (xs : List X) → ((x : X) → Among x xs → P x) → AllByRecursion P xs
 all_from P [] h = tt
 all_from P (x ∷ xs) h = (h x (inl refl), all_from P xs (λ y m. h y (inr m)))
 
@@ -141,7 +141,7 @@ defines_append (x ∷ xs) ys y e f =
     let n = not_or (among y x.names) (defines xs y) e in
     or_not (among y x.names) (defines (xs ++ ys) y) n.0 (defines_append xs ys y n.1 f)
 
-none_at : (Gs : List (List Definition)) (k : ℕ) (y : Ref) → adds_some Gs y ≡ false → adds (group_at Gs k) y ≡ false
+pub none_at : (Gs : List (List Definition)) (k : ℕ) (y : Ref) → adds_some Gs y ≡ false → adds (group_at Gs k) y ≡ false
 none_at [] k y e = refl
 none_at (G ∷ Gs) zero y e = (not_or (adds G y) (adds_some Gs y) e).0
 none_at (G ∷ Gs) (suc k) y e = none_at Gs k y (not_or (adds G y) (adds_some Gs y) e).1
@@ -170,7 +170,7 @@ unnoted : (o : Option Annotation) (around : Constants) (xs : List Ref) (y : Ref)
 unnoted None around xs y e = refl
 unnoted (Some note) around xs y e = unnoted_names xs y (Instance (scheme_inside around note)) e
 
-annotated_entry : (es : List Definition) (around : Constants) (d : Definition) (note : Annotation) (y : Ref) → ((e : Definition) → Among e es → among y e.names ≡ true → e ≡ d) → Among d es
+pub annotated_entry : (es : List Definition) (around : Constants) (d : Definition) (note : Annotation) (y : Ref) → ((e : Definition) → Among e es → among y e.names ≡ true → e ≡ d) → Among d es
     → among y d.names ≡ true → d.annotation ≡ Some note → at_name y (annotated_names es around) ≡ Some (Instance (scheme_inside around note))
 annotated_entry [] around d note y one m own is = absurd m
 annotated_entry (e ∷ es) around d note y one m own is = elim (yes_or_no (among y e.names)) [
@@ -192,7 +192,7 @@ no_annotation (d ∷ es) around y e =
     let n = not_or (among y d.names) (defines es y) e in
     name_right y (entries_as d.annotation around d.names) (annotated_names es around) (unnoted d.annotation around d.names y n.0) ∙ no_annotation es around y n.1
 
-one_types_annotated : (es : List Definition) (around : Constants) (names : Entries) → one_types (annotated_names es around ++ names) ≡ one_types names
+pub one_types_annotated : (es : List Definition) (around : Constants) (names : Entries) → one_types (annotated_names es around ++ names) ≡ one_types names
 one_types_annotated [] around names = refl
 one_types_annotated (d ∷ es) around names = go d.annotation (one_types_annotated es around names)
   where
@@ -225,7 +225,7 @@ plain_head d ds U pl is = record {
   items = ap (λ o. (list_as o d ds U pl).items) is;
 }
 
-plain_adding : (G : List Definition) (U : Scope) (pl : Place) (y : Ref) → adds G y ≡ true → PlainStage G U pl
+pub plain_adding : (G : List Definition) (U : Scope) (pl : Place) (y : Ref) → adds G y ≡ true → PlainStage G U pl
 plain_adding [] U pl y e = not_both false e refl
 plain_adding (d ∷ ds) U pl y e = plain_head d ds U pl (go d.annotation e)
   where
@@ -233,7 +233,7 @@ plain_adding (d ∷ ds) U pl y e = plain_head d ds U pl (go d.annotation e)
     go None f = refl
     go (Some note) f = not_both false f refl
 
-adds_defines : (G : List Definition) (y : Ref) → adds G y ≡ true → defines G y ≡ true
+pub adds_defines : (G : List Definition) (y : Ref) → adds G y ≡ true → defines G y ≡ true
 adds_defines [] y e = not_both false e refl
 adds_defines (d ∷ ds) y e = go d.annotation e
   where
@@ -241,7 +241,7 @@ adds_defines (d ∷ ds) y e = go d.annotation e
     go None f = f
     go (Some note) f = not_both false f refl
 
-abbrev Alone : List Definition → Type 0
+abbrev pub Alone : List Definition → Type 0
 Alone G = (d : Definition) (note : Annotation) → Among d G → d.annotation ≡ Some note → (e : Definition) → Among e G → e ≡ d
 
 -- a definition without an annotation stands in a group whose first has none
@@ -254,7 +254,7 @@ plain_member : (d : Definition) (G : List Definition) (U : Scope) (pl : Place) �
 plain_member d [] U pl alone m none = absurd m
 plain_member d (h ∷ rest) U pl alone m none = plain_head h rest U pl (head_plain d h rest alone m none h.annotation refl)
 
-adds_member : (d : Definition) (G : List Definition) (y : Ref) → Alone G → Among d G → d.annotation ≡ None → among y d.names ≡ true → adds G y ≡ true
+pub adds_member : (d : Definition) (G : List Definition) (y : Ref) → Alone G → Among d G → d.annotation ≡ None → among y d.names ≡ true → adds G y ≡ true
 adds_member d [] y alone m none own = absurd m
 adds_member d (h ∷ rest) y alone m none own =
     ap (λ o. adds_as o (h ∷ rest) y) (head_plain d h rest alone m none h.annotation refl) ∙ defines_among (h ∷ rest) d y m own
@@ -274,7 +274,7 @@ member_solved : (G : List Definition) (R : Scope) (q : Place) (j : ℕ) (d : Def
 member_solved G R q j d g sol m =
     solves_left g (d.list R (child q j) (at (child q j))) (Small d.place (at (child q j)) ∷ []) (flat_part (member_items R q) (enumerate_from 0 G) (j, d) g.values sol m)
 
-each_at : (K : Known) (Gs : List (List Definition)) → ((k : ℕ) → AllNamed K (group_at Gs k)) → EachNamed K Gs
+pub each_at : (K : Known) (Gs : List (List Definition)) → ((k : ℕ) → AllNamed K (group_at Gs k)) → EachNamed K Gs
 each_at K [] h = tt
 each_at K (G ∷ Gs) h = (h 0, each_at K Gs (λ k. h (suc k)))
 
@@ -306,14 +306,14 @@ module _ (W : World) (ds : List Definition) (S : Scope) (p : Place) (a : Frame) 
   Last = last_scope Hs T
 
   abbrev pub let_stages : (Ref → Bool) → Stages
-  let_stages V = stages W.known Hs T p 0 a V
+  let_stages V = stages S.known Hs T p 0 a V
 
   in_ds : (k : ℕ) (d : Definition) → Among d (group_at Hs k) → Among d ds
   in_ds k d m = among_written d ds (group_among written k d m)
 
-  module _ (known : S.known ≡ W.known) (named : AllNamed W.known ds) where
-    each_named : EachNamed W.known Hs
-    each_named = each_at W.known Hs (λ k. all_from (Named W.known) (group_at Hs k) (λ d m. all_among (Named W.known) ds d named (in_ds k d m)))
+  module _ (known : S.known ≡ S.known) (named : AllNamed S.known ds) where
+    each_named : EachNamed S.known Hs
+    each_named = each_at S.known Hs (λ k. all_from (Named S.known) (group_at Hs k) (λ d m. all_among (Named S.known) ds d named (in_ds k d m)))
 
     wide : Wider S Last
     wide = record {
@@ -331,7 +331,7 @@ module _ (W : World) (ds : List Definition) (S : Scope) (p : Place) (a : Frame) 
 
     pub same_before : (y : Ref) → defines ds y ≡ false → entry_of Last y ≡ entry_of S y
     same_before y n =
-        last_none W.known Hs T y each_named (some_none Hs y (not_added y n))
+        last_none S.known Hs T y each_named (some_none Hs y (not_added y n))
         ∙ found_right S (annotated_names written S.constants) y (no_annotation written S.constants y (none_defined written y (λ d m. defined_none ds d y n (among_written d ds m))))
 
     -- before the first group is bound
@@ -365,8 +365,8 @@ module _ (W : World) (ds : List Definition) (S : Scope) (p : Place) (a : Frame) 
           let U = scope_at Hs T k in
           let pl = place_at Hs p 0 k in
           let st = plain_adding G U pl x adding in
-          let names = named_at W.known Hs k each_named in
-          let r = first_definer W.known G U.known q 0 x ((scope_alike Hs T k).known ∙ known) names (adds_defines G x adding) in
+          let names = named_at S.known Hs k each_named in
+          let r = first_definer S.known G U.known q 0 x ((scope_alike Hs T k).known ∙ known) names (adds_defines G x adding) in
           let m : Among r.definition G = unnumbered G 0 r.number r.definition r.member in
           let same : r.definition ≡ d = one_definer ds r.definition d x apart (in_ds k r.definition m) in_let r.own own in
           let at_k : AtStage s k q g = record {
@@ -381,7 +381,7 @@ module _ (W : World) (ds : List Definition) (S : Scope) (p : Place) (a : Frame) 
           let here : at_name x (d.types S.known (child q r.number) (at (child q r.number))) ≡ Some (Mono r.type) =
           ap (λ z. at_name x (z.types S.known (child q r.number) (at (child q r.number)))) (sym same)
           ∙ (ap (λ n. at_name x (r.definition.types n (child q r.number) (at (child q r.number)))) (sym (scope_alike Hs T k).known) ∙ r.here) in
-          subst (λ t. P (of g t)) (sym (definer_type W.known G U.known q x names r))
+          subst (λ t. P (of g t)) (sym (definer_type S.known G U.known q x names r))
           (typed k q g at_k (subst (λ z. Among z G) same m) (child q r.number) (at (child q r.number)) body r.type here)
 
       -- the items of a definition with an annotation, in its own frame
@@ -443,7 +443,7 @@ module _ (W : World) (ds : List Definition) (S : Scope) (p : Place) (a : Frame) 
       -- what has the types of a definition's name serves the name's entry
       pub serve : (d : Definition) (x : Ref) (P : Ground → Type 0) → Among d ds → among x d.names ≡ true → HasNoted d x → TypedAt d x P → (entry : Entry) → entry_of Last x ≡ Some entry
           → Serves P entry Last a
-      serve d x P in_let own has typed entry found = elim (last_adding W.known Hs T x known each_named) [
+      serve d x P in_let own has typed entry found = elim (last_adding S.known Hs T x known each_named) [
         | inr r ↦ (let z : Some (general (group_at Hs r.number) (scope_at Hs T r.number) x) ≡ Some entry = sym r.found ∙ found in
             let e : general (group_at Hs r.number) (scope_at Hs T r.number) x ≡ entry = cc in
             subst (λ o. Serves P o Last a) e (serve_general d x P in_let own typed r.number r.own))
@@ -458,7 +458,7 @@ module _ (W : World) (ds : List Definition) (S : Scope) (p : Place) (a : Frame) 
               let one : (e : Definition) → Among e written → among x e.names ≡ true → e ≡ d = λ e m other. one_definer ds e d x apart (among_written e ds m) in_let other own in
               let noted : entry_of T x ≡ Some (Instance (scheme_inside S.constants note)) =
               found_left S (annotated_names written S.constants) x (Instance (scheme_inside S.constants note)) (annotated_entry written S.constants d note x one (written_among d ds in_let) own is) in
-              let z : Some (Instance (scheme_inside S.constants note)) ≡ Some entry = sym (last_none W.known Hs T x each_named none ∙ noted) ∙ found in
+              let z : Some (Instance (scheme_inside S.constants note)) ≡ Some entry = sym (last_none S.known Hs T x each_named none ∙ noted) ∙ found in
               let e : Instance (scheme_inside S.constants note) ≡ entry = cc in
               subst (λ o. Serves P o Last a) e (serve_noted d x P in_let has typed note is)
 
@@ -507,11 +507,11 @@ module _ (W : World) (ds : List Definition) (S : Scope) (p : Place) (a : Frame) 
       -- ---- stages
 
       pub stage_transfer : (k : ℕ) (q : Place) (g : Frame) → AtStage s k q g → Transfer Last a (s.scopes k q) g V (s.hidden k)
-      stage_transfer k q g st = transfer_stage W.known Hs T p 0 a V k q g known each_named st
+      stage_transfer k q g st = transfer_stage S.known Hs T p 0 a V k q g known each_named st
 
       pub stage_fits : (env : Env) (k : ℕ) (q : Place) (g : Frame) → AtStage s k q g → Fits W env V Last a → Fits W env (s.hidden k) (s.scopes k q) g
       stage_fits env k q g st fits =
-          fits_transfer Last a (s.scopes k q) g W env V (s.hidden k) (stage_wider W.known Hs T p 0 a V k q).known (stage_transfer k q g st) fits
+          fits_transfer Last a (s.scopes k q) g W env V (s.hidden k) (stage_wider S.known Hs T p 0 a V k q).known (stage_transfer k q g st) fits
 
       pub stage_free : (k : ℕ) (d : Definition) → Among d (group_at Hs k) → Without V d.uses → Without (s.hidden k) d.uses
       stage_free k d m free =
@@ -570,6 +570,6 @@ module _ (W : World) (ds : List Definition) (S : Scope) (p : Place) (a : Frame) 
                 let R = s.scopes k q in
                 let t = stage_transfer k q g st in (
                   members_transfer Last a R g W s fs V (s.hidden k) t members,
-                  fits_transfer Last a R g W env (hides fs V) (hides fs (s.hidden k)) (stage_wider W.known Hs T p 0 a V k q).known (transfer_all Last a R g fs V (s.hidden k) t) rest,
+                  fits_transfer Last a R g W env (hides fs V) (hides fs (s.hidden k)) (stage_wider S.known Hs T p 0 a V k q).known (transfer_all Last a R g fs V (s.hidden k) t) rest,
                 );
           }

@@ -1,32 +1,36 @@
 -- What is declared without a body serves its name, and the declarations of a module bind what fits the scope after it.
-use Rattle.std.proofs.Common.{◌≡◌, ℕ, suc, List, [], ◌∷◌, ◌++◌, map, length, Bool, true, false, Some, flat_map, ◌⊎◌, inl, inr, refl, sym, ap, ◌∙◌, subst, arith, eqb-true, eq-eqb}
-use Rattle.std.specs.Prelude.{◌==◌, if◌then◌else◌}
+use Rattle.std.proofs.Common.{◌≡◌, ℕ, suc, List, [], ◌∷◌, ◌++◌, map, length, Bool, true, false, Some, flat_map, inl, inr, refl, sym, ap, ◌∙◌, subst, arith, eqb-true, eq-eqb}
+use Rattle.std.specs.Prelude.{◌==◌, if◌then◌else◌, codes}
 use Rattle.std.specs.List.{zip}
 use Rattle.runs.specs.Ends.{End, Val}
 use Rattle.elm_canon.specs.Names.{Name}
 use Rattle.elm_canon.specs.declared.reference.Ref.{Ref}
 use Rattle.elm_canon.specs.declared.reference.Ref.TheVariants.{Top}
 use Rattle.elm_canon.specs.Tree as canon
-use Rattle.elm_canon.specs.Tree.{Maker, RecordMaker, Declaration, Given, Define}
+use Rattle.elm_canon.specs.Tree.{Maker, RecordMaker, Declaration, Given, Define, Payload, IntPayload, BoolPayload, TextPayload}
+use Rattle.elm_canon.specs.Tree.{MaybePayload, ListPayload, TuplePayload, RecordPayload, Payloads, NoPayload, MorePayload}
+use Rattle.elm_canon.specs.Tree.{PayloadFields, NoPayloadField, MorePayloadField}
+use Rattle.elm_type.specs.declared.head.Head.TheVariants as head
 use Rattle.elm_meaning.specs.Functions as functions
 use Rattle.elm_meaning.specs.Values.{Value, KnownV, NoValue}
 use Rattle.elm_meaning.specs.Operate.{build}
 use Rattle.elm_meaning.specs.Primitives.{known, finish}
-use Rattle.elm_type.specs.Types.{ElmType, Leaf, Scheme, Record, Closed, NoField, functions as functions_to, function}
+use Rattle.elm_type.specs.Types.{ElmType, Leaf, Scheme, Made, Record, Closed, NoField, MoreType, functions as functions_to, function, named, list_type}
 use Rattle.elm_type.specs.Classes.{Ground}
-use Rattle.elm_type.specs.Rows.{sorted, closed, insert_field, insert_all, substitute, substitute_fields}
-use Rattle.type_items.specs.Scopes.{Instance, Scope}
+use Rattle.elm_type.specs.Rows.{sorted, closed, insert_field, insert_all, substitute, substitute_all, substitute_fields}
+use Rattle.type_items.specs.Scopes.{Known, Instance, Scope}
 use Rattle.type_items.specs.Expressions.{definitions, group_definitions}
 use Rattle.type_items.specs.Modules.{definitions_in}
 use Rattle.typed_values.specs.Frames.{Frame, Serves, instance_leaf}
-use Rattle.typed_values.specs.World.{World, made_type, Knows, IsSound}
+use Rattle.typed_values.specs.Payloads.{payload_type, payload_types, payload_fields, cmd_type, sub_type}
+use Rattle.typed_values.specs.World.{World, KnownIn, made_type, Knows, IsSound}
 use Rattle.typed_values.specs.Typed.{EndsWell, Has}
 use Rattle.typed_values.proofs.Names.{not_both}
-use Rattle.typed_values.proofs.Rows.{substitute_insert}
+use Rattle.typed_values.proofs.Rows.{substitute_insert, insert_all_insert}
 use Rattle.typed_values.proofs.Unions.{map_length}
 use Rattle.typed_values.proofs.Makers.{built_of}
 use Rattle.typed_values.proofs.Operations.{sorted_again}
-use Rattle.type_safety.specs.Modules.{IsConstructor, IsRecordMaker, groups_in}
+use Rattle.type_safety.specs.Modules.{IsConstructor, IsRecordMaker, IsOut, IsIn, IsPort, IsTyped, groups_in}
 
 substituted_functions : {X Y : Type 0} (L : X → ElmType Y) (ts : List (ElmType X)) (r : ElmType X) → substitute L (functions_to ts r) ≡ functions_to (map (substitute L) ts) (substitute L r)
 substituted_functions L [] r = refl
@@ -50,6 +54,32 @@ substituted_closed L xs ts =
     ap (λ fs. Record (insert_all fs NoField) Closed) (substituted_sorted L (zip xs ts))
     ∙ (ap (λ fs. Record fs Closed) (sorted_again (map (pair L) (zip xs ts))) ∙ ap closed (substituted_zip L xs ts))
 
+-- the type of a payload has no variables
+mutual
+  pub payload_same : {X Y : Type 0} (L : X → ElmType Y) (t : Payload) → substitute L (payload_type t) ≡ payload_type t
+  payload_same L IntPayload = refl
+  payload_same L BoolPayload = refl
+  payload_same L TextPayload = refl
+  payload_same L (MaybePayload t) = ap (λ z. named (codes "Maybe") (codes "Maybe") (z ∷ [])) (payload_same L t)
+  payload_same L (ListPayload t) = ap list_type (payload_same L t)
+  payload_same L (TuplePayload ts) = ap (Made head.Tuple) (payloads_same L ts)
+  payload_same L (RecordPayload fs) = ap (λ z. Record (insert_all z NoField) Closed) (fields_same L fs) ∙ ap (λ z. Record z Closed) (fields_again fs)
+
+  payloads_same : {X Y : Type 0} (L : X → ElmType Y) (ts : Payloads) → substitute_all L (payload_types ts) ≡ payload_types ts
+  payloads_same L NoPayload = refl
+  payloads_same L (MorePayload t ts) = ap (λ z. MoreType z (substitute_all L (payload_types ts))) (payload_same L t) ∙ ap (MoreType (payload_type t)) (payloads_same L ts)
+
+  fields_same : {X Y : Type 0} (L : X → ElmType Y) (fs : PayloadFields) → substitute_fields L (payload_fields fs) ≡ payload_fields fs
+  fields_same L NoPayloadField = refl
+  fields_same L (MorePayloadField k t fs) =
+      substitute_insert L k (payload_type t) (payload_fields fs)
+      ∙ (ap (λ z. insert_field k z (substitute_fields L (payload_fields fs))) (payload_same L t) ∙ ap (insert_field k (payload_type t)) (fields_same L fs))
+
+  fields_again : {X : Type 0} (fs : PayloadFields) → insert_all (payload_fields {X = X} fs) NoField ≡ payload_fields fs
+  fields_again NoPayloadField = refl
+  fields_again (MorePayloadField k t fs) =
+      insert_all_insert k (payload_type t) (payload_fields fs) NoField ∙ ap (insert_field k (payload_type t)) (fields_again fs)
+
 if_known : (b : Bool) (n : ℕ) (one other : End Value) (P : Value → Type 0) → (0 == n) ≡ b → (n ≡ 0 → EndsWell P one) → ((n ≡ 0 → ⊥) → EndsWell P other) → EndsWell P (if b then one else other)
 if_known true n one other P e h k = h (sym (eqb-true 0 n e))
 if_known false n one other P e h k = k (λ z. not_both (0 == n) (eq-eqb 0 n (sym z)) e)
@@ -58,20 +88,20 @@ if_known false n one other P e h k = k (λ z. not_both (0 == n) (eq-eqb 0 n (sym
 abbrev pub Instances : World → Scheme → Value → Type 0
 Instances w s v = (scope : Scope) (f : Frame) → Serves (λ g. Has w v g) (Instance s) scope f
 
-pub record GivenServes (w : World) (x : Ref) (k : canon.Known) : Type 0 where
+pub record GivenServes (w : World) (known_here : Known) (x : Ref) (k : canon.Known) : Type 0 where
   pub home : Name
   pub name : Name
   pub scheme : Scheme
   pub name_is : x ≡ Top home name
-  pub known_is : w.known home name ≡ Some scheme
+  pub known_is : known_here home name ≡ Some scheme
   pub ends : EndsWell (Instances w scheme) (known (functions.Given k) NoValue)
 
-module _ (w : World) (sound : IsSound w) where
-  constructor_serves : (x : Ref) (k : canon.Known) → IsConstructor w x k → GivenServes w x k
+module _ (w : World) (sound : IsSound w) (known_here : Known) (is_known : KnownIn w known_here) where
+  constructor_serves : (x : Ref) (k : canon.Known) → IsConstructor w x k → GivenServes w known_here x k
   constructor_serves x k m =
       let c = m.constructor_ in
       let u = sound.unions m.home m.name in
-      let s = u.makes c m.among in record {
+      let s = u.makes known_here is_known c m.among in record {
         home = m.home;
         name = c.alternative.name;
         scheme = s.0;
@@ -82,16 +112,17 @@ module _ (w : World) (sound : IsSound w) where
             (λ none. subst (EndsWell (Instances w s.0)) (sym (built_of w sound m.home m.name c NoValue m.among (sym none)))
             (λ scope f g choice stands agree chosen. (
               [],
-              inr (inr (record {
+              inl (inr (inr (record {
                 home = m.home;
                 name = m.name;
                 constructor_ = c;
                 among = m.among;
                 tag_is = refl;
+                own = m.own;
                 choice = instance_leaf choice g;
                 parts_are = ap (map (substitute (instance_leaf choice g))) (no_fields c.fields (u.counted c m.among ∙ none));
                 is = sym (ap (substitute (instance_leaf choice g)) s.2 ∙ ap (λ ts. substitute (instance_leaf choice g) (functions_to ts (made_type m.home m.name c))) (no_fields c.fields (u.counted c m.among ∙ none)));
-              })),
+              }))),
               tt,
             )))
             (λ some scope f g choice stands agree chosen.
@@ -116,6 +147,7 @@ module _ (w : World) (sound : IsSound w) where
           constructor_ = m.constructor_;
           among = m.among;
           is = refl;
+          own = m.own;
           choice = L;
           parts_are = ap (map (substitute L)) same;
           gives = refl;
@@ -123,13 +155,13 @@ module _ (w : World) (sound : IsSound w) where
         is = sym (is ∙ (ap (λ us. substitute L (functions_to us (made_type m.home m.name m.constructor_))) same ∙ substituted_functions L (t ∷ ts) (made_type m.home m.name m.constructor_)));
       }
 
-  record_serves : (x : Ref) (k : canon.Known) → IsRecordMaker w x k → GivenServes w x k
+  record_serves : (x : Ref) (k : canon.Known) → IsRecordMaker known_here x k → GivenServes w known_here x k
   record_serves x k m = record {
     home = m.home;
     name = m.name;
     scheme = m.scheme;
     name_is = m.name_is;
-    known_is = m.known;
+    known_is = m.known_is;
     ends = subst (λ z. EndsWell (Instances w m.scheme) (known (functions.Given z) NoValue)) (sym m.is) (go m.fields m.types m.counted m.proper m.scheme_is);
   }
     where
@@ -154,9 +186,50 @@ module _ (w : World) (sound : IsSound w) where
             tt,
           ))
 
-  pub given_serves : (x : Ref) (k : canon.Known) → IsConstructor w x k ⊎ IsRecordMaker w x k → GivenServes w x k
+  -- ---- ports
+
+  out_serves : (x : Ref) (k : canon.Known) (s : Scheme) → IsOut w k s → EndsWell (Instances w s) (known (functions.Given k) NoValue)
+  out_serves x k s m = subst (λ z. EndsWell (Instances w s) (known (functions.Given z) NoValue)) (sym m.3) (λ scope f g choice stands agree chosen.
+      let L = instance_leaf choice g in (
+        [],
+        record {
+          next = payload_type m.1;
+          later = [];
+          result = cmd_type (substitute L m.2);
+          takes = (substitute L m.2, m.4, m.5, refl, refl);
+          is = sym (ap (substitute L) m.6 ∙ ap (λ t. function t (cmd_type (substitute L m.2))) (payload_same L m.1));
+        },
+        tt,
+      ))
+
+  in_serves : (x : Ref) (k : canon.Known) (s : Scheme) → IsIn w k s → EndsWell (Instances w s) (known (functions.Given k) NoValue)
+  in_serves x k s m = subst (λ z. EndsWell (Instances w s) (known (functions.Given z) NoValue)) (sym m.3) (λ scope f g choice stands agree chosen.
+      let L = instance_leaf choice g in (
+        [],
+        record {
+          next = function (payload_type m.1) (substitute L m.2);
+          later = [];
+          result = sub_type (substitute L m.2);
+          takes = (substitute L m.2, m.4, refl, refl);
+          is = sym (ap (substitute L) m.5 ∙ ap (λ t. function (function t (substitute L m.2)) (sub_type (substitute L m.2))) (payload_same L m.1));
+        },
+        tt,
+      ))
+
+  port_serves : (x : Ref) (k : canon.Known) → IsPort w known_here x k → GivenServes w known_here x k
+  port_serves x k m = record {
+    home = m.home;
+    name = m.name;
+    scheme = m.scheme;
+    name_is = m.name_is;
+    known_is = m.known_is;
+    ends = elim m.is [ inl o ↦ out_serves x k m.scheme o | inr i ↦ in_serves x k m.scheme i ];
+  }
+
+  pub given_serves : (x : Ref) (k : canon.Known) → IsTyped w known_here x k → GivenServes w known_here x k
   given_serves x k (inl m) = constructor_serves x k m
-  given_serves x k (inr m) = record_serves x k m
+  given_serves x k (inr (inl m)) = record_serves x k m
+  given_serves x k (inr (inr m)) = port_serves x k m
 
 -- the definitions of declarations are those of their groups
 pub declared_definitions : (ds : List Declaration) → flat_map definitions_in ds ≡ definitions (groups_in ds)

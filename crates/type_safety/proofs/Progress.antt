@@ -19,7 +19,8 @@ use Rattle.elm_meaning.specs.Match.{matches, on_match}
 use Rattle.elm_meaning.specs.Operate.{perform}
 use Rattle.elm_meaning.specs.Eval.{Call, eval_with, evals_with, apply_with, choose_with, if_true, left_decides, bind_with, group_with, enter, call_at}
 use Rattle.elm_type.specs.Types.{NoType, MoreType, Made, Record, NoField, MoreField, Closed, function, functions, int_type, char_type, string_type, bool_type}
-use Rattle.elm_type.specs.Classes.{Ground}
+use Rattle.elm_type.specs.Classes.{Ground, meets}
+use Rattle.elm_type.specs.declared.class.Class.TheVariants.{Number}
 use Rattle.elm_type.specs.Rows.{extend, substitute}
 use Rattle.ground_types.specs.Ground.{value, leaf_value}
 use Rattle.type_items.specs.Items.{Item, Place, child, Wanted, at, children}
@@ -27,11 +28,11 @@ use Rattle.type_items.specs.Scopes.{Entry, entry_of, Mono, Known, Scope, elsewhe
 use Rattle.type_items.specs.Patterns.{pattern_items, patterns_items, parameter_types, bind_pattern, bind_patterns}
 use Rattle.type_items.specs.Operations.{plan}
 use Rattle.type_items.specs.Uses.{used, used_each, used_branches, used_groups, used_group, used_functions}
-use Rattle.type_items.specs.Definitions.{Definition, list_definitions}
+use Rattle.type_items.specs.Definitions.{Definition, in_written_order, around_items, list_groups, list_definitions}
 use Rattle.type_items.specs.Expressions.{items, each_items, part_items, branch_items, function_items, titled, definitions, group_definitions, function_definitions}
 use Rattle.type_items.specs.Solutions.{Solves}
 use Rattle.typed_values.specs.Frames.{Frame, of, Stands}
-use Rattle.typed_values.specs.World.{World, Knows}
+use Rattle.typed_values.specs.World.{KnownIn, World, Knows, sent_type}
 use Rattle.typed_values.specs.Simple.{Without}
 use Rattle.typed_values.specs.Typed.{EndsWell, or_named, bind_from, IsChecked, Has, HasEach, Fits}
 use Rattle.typed_values.specs.Simple.{IsPattern, IsOperation, Takes, branch_patterns, Simple, SimpleEach, SimpleBranches, SimpleGroups, SimpleGroup}
@@ -58,8 +59,8 @@ use Rattle.elm_meaning.specs.Values.{NoValue}
 use Rattle.elm_meaning.specs.Primitives.{known}
 use Rattle.elm_meaning.specs.Run.{declare_with}
 use Rattle.type_items.specs.Scopes.{Instance}
-use Rattle.type_items.specs.Modules.{module_scope, module_items}
-use Rattle.type_safety.specs.Modules.{IsConstructor, IsRecordMaker, groups_in, given_in, AreMakers, UseMakersBefore, IsPlain}
+use Rattle.type_items.specs.Modules.{known_in, module_scope, module_definitions, module_items}
+use Rattle.type_safety.specs.Modules.{groups_in, given_in, IsTyped, AreTyped, AreTitled, before_own, UseGivenBefore, IsPlain}
 use Rattle.type_safety.specs.Modules.{scope_after}
 use Rattle.type_safety.proofs.Modules.{GivenServes, Instances, declared_definitions}
 use Rattle.type_safety.proofs.Lets.{same_before}
@@ -71,8 +72,7 @@ use Rattle.type_safety.proofs.Lets.{one_type_of, functions_fit}
 use Rattle.type_safety.proofs.Destructured.{names_mono, names_skip, names_has, Binds, bind_all, match_binds, hide_binds}
 use Rattle.type_safety.proofs.Destructured.{hide_lookup, fits_binds, binds_typed}
 use Rattle.typed_values.proofs.Rows.{substitute_extend}
-use Rattle.typed_values.proofs.Numbers.{number_is_int, standing_number, standing_lacks}
-use Rattle.typed_values.proofs.Keeping.{bare_kept}
+use Rattle.typed_values.proofs.Numbers.{standing_number, standing_lacks}
 use Rattle.typed_values.proofs.Uses.{uses_end_well}
 use Rattle.typed_values.proofs.Patterns.{up, no_nonsense, match_good}
 
@@ -105,7 +105,7 @@ second_part (Record fs end) = int_type
 abbrev PassOver : Branches → Value → Env → Type 0
 PassOver bs v env = AllByRecursion (λ p. matches p v env ≡ Val None) (branch_patterns bs)
 
-pattern_typed : (W : World) (q : Pattern) (known : Known) (a : Frame) (here : Pos) (p : Place) (t : Wanted) → IsPattern W q → Stands a → known ≡ W.known
+pattern_typed : (W : World) (q : Pattern) (known : Known) (a : Frame) (here : Pos) (p : Place) (t : Wanted) → IsPattern W q → Stands a → KnownIn W known
     → Solves a.values (pattern_items q known here p t) → IsPatternOf W (of a t) q
 pattern_typed W q known a here p t proper bare same sol = record {
   is_pattern = proper;
@@ -114,11 +114,13 @@ pattern_typed W q known a here p t proper bare same sol = record {
   wanted = t;
   frame = a;
   stands = bare;
-  solves = subst (λ k. Solves a.values (pattern_items q k here p t)) same sol;
+  known = known;
+  is_known = same;
+  solves = sol;
   is = refl;
 }
 
-branches_typed : (W : World) (bs : Branches) (S : Scope) (a : Frame) (here : Pos) (p : Place) (i : ℕ) (t w : Wanted) → SimpleBranches W bs → Stands a → S.known ≡ W.known
+branches_typed : (W : World) (bs : Branches) (S : Scope) (a : Frame) (here : Pos) (p : Place) (i : ℕ) (t w : Wanted) → SimpleBranches W bs → Stands a → KnownIn W S.known
     → Solves a.values (branch_items bs S here p i t w) → AllByRecursion (IsPatternOf W (of a t)) (branch_patterns bs)
 branches_typed W NoBranch S a here p i t w simple bare same sol = tt
 branches_typed W (MoreBranch q e bs) S a here p i t w simple bare same sol =
@@ -130,10 +132,10 @@ branches_typed W (MoreBranch q e bs) S a here p i t w simple bare same sol =
     )
 
 module _ (W : World) (steps : StepsKeepTypes W) where
-  abbrev Good : End Value → Ground → Type 0
+  abbrev pub Good : End Value → Ground → Type 0
   Good o g = EndsWell (λ v. Has W v g) o
 
-  abbrev CallOk : Call → Type 0
+  abbrev pub CallOk : Call → Type 0
   CallOk call = (f v : Value) (a b : Ground) → Has W f (function a b) → Has W v a → Good (call f v) b
 
   good_as : (o : End Value) (g h : Ground) → g ≡ h → Good o g → Good o h
@@ -164,8 +166,8 @@ module _ (W : World) (steps : StepsKeepTypes W) where
 
   -- ---- the definitions of a `let`
 
-  titled_named : (title : Title) (uses : List Ref) (list : Scope → Place → Wanted → List Item) → Named W.known (titled title uses list)
-  titled_named title uses list = record {
+  titled_named : (title : Title) (uses : List Ref) (list : Scope → Place → Wanted → List Item) → (K : Known) → Named K (titled title uses list)
+  titled_named title uses list K = record {
     mono = λ known p v. tt;
     inside = λ known p v y k e. (v, ap (λ b. cond b (Some (Mono v)) None) (one_among title.name y e));
     outside = λ known p v y e. ap (λ b. cond b (Some (Mono v)) None) (not_among title.name y e);
@@ -189,17 +191,17 @@ module _ (W : World) (steps : StepsKeepTypes W) where
         types = λ known p v. pattern_names q known (child p 0) v [];
       }
 
-  functions_named : (fs : Functions) → AllNamed W.known (function_definitions fs)
-  functions_named NoFunction = tt
-  functions_named (MoreFunction title qs e fs) = (titled_named title (used e) (λ scope p v. function_items qs (items e) scope title.place p v), functions_named fs)
+  functions_named : (fs : Functions) (K : Known) → AllNamed K (function_definitions fs)
+  functions_named NoFunction K = tt
+  functions_named (MoreFunction title qs e fs) K = (titled_named title (used e) (λ scope p v. function_items qs (items e) scope title.place p v) K, functions_named fs K)
 
-  group_named : (g : Group) → SimpleGroup W g → AllNamed W.known (group_definitions g)
-  group_named (Together fs) simple = functions_named fs
-  group_named (Constant title e) simple = (titled_named title (used e) (λ scope p v. function_items NoPattern (items e) scope title.place p v), tt)
-  group_named (Destructure q e) simple = (
+  group_named : (g : Group) (K : Known) → KnownIn W K → SimpleGroup W g → AllNamed K (group_definitions g)
+  group_named (Together fs) K is simple = functions_named fs K
+  group_named (Constant title e) K is simple = (titled_named title (used e) (λ scope p v. function_items NoPattern (items e) scope title.place p v) K, tt)
+  group_named (Destructure q e) K is simple = (
     record {
       mono = λ known p v. names_mono q known (child p 0) v [] tt;
-      inside = λ known p v y k own. names_has W steps q simple.0.0 known (child p 0) v [] y k own;
+      inside = λ known p v y k own. names_has W steps q simple.0.0 known (child p 0) v [] y (subst (KnownIn W) (sym k) is) own;
       outside = λ known p v y other. names_skip q known (child p 0) v [] y other;
     },
     tt,
@@ -209,16 +211,25 @@ module _ (W : World) (steps : StepsKeepTypes W) where
   all_append P [] ys h k = k
   all_append P (x ∷ xs) ys h k = (h.0, all_append P xs ys h.1 k)
 
-  definitions_named : (gs : Groups) → SimpleGroups W gs → AllNamed W.known (definitions gs)
-  definitions_named NoGroup simple = tt
-  definitions_named (MoreGroup g gs) simple = all_append (Named W.known) (group_definitions g) (definitions gs) (group_named g simple.0) (definitions_named gs simple.1)
+  definitions_named : (gs : Groups) (K : Known) → KnownIn W K → SimpleGroups W gs → AllNamed K (definitions gs)
+  definitions_named NoGroup K is simple = tt
+  definitions_named (MoreGroup g gs) K is simple = all_append (Named K) (group_definitions g) (definitions gs) (group_named g K is simple.0) (definitions_named gs K is simple.1)
+
+  -- at the top level nothing is destructured, so that names are told without the patterns
+  pub top_named : (gs : Groups) (K : Known) → AreTitled gs → AllNamed K (definitions gs)
+  top_named NoGroup K h = tt
+  top_named (MoreGroup (Together fs) gs) K h = all_append (Named K) (function_definitions fs) (definitions gs) (functions_named fs K) (top_named gs K h)
+  top_named (MoreGroup (Constant title e) gs) K h =
+      all_append (Named K) (group_definitions (Constant title e)) (definitions gs)
+      (titled_named title (used e) (λ scope p v. function_items NoPattern (items e) scope title.place p v) K, tt) (top_named gs K h)
+  top_named (MoreGroup (Destructure q e) gs) K h = absurd h
 
   record IsLet (ds : List Definition) (S : Scope) (p : Place) (a : Frame) : Type 0 where
-    known : S.known ≡ W.known
-    named : AllNamed W.known ds
+    known : KnownIn W S.known
+    named : AllNamed S.known ds
     apart : AreApart ds
     stands : Stands a
-    solves : Solves a.values (list_definitions ds S p).items
+    solves : Solves a.values (list_groups (Hs W ds S p a) (T W ds S p a) p 0).items
 
   -- what is hidden before these groups are bound
   abbrev later : Groups → (Ref → Bool) → Ref → Bool
@@ -241,7 +252,7 @@ module _ (W : World) (steps : StepsKeepTypes W) where
       (or_not (among y (title.name ∷ [])) (defines (function_definitions fs) y) (among_one title.name y o.0) r.0, o.1)
 
   -- a parameter that leaves nothing out
-  taken_here : (q : Pattern) (v : Value) (env : Env) (S : Scope) (a : Frame) (here : Pos) (p : Place) (t : Wanted) → IsPattern W q → Takes q → Stands a → S.known ≡ W.known
+  taken_here : (q : Pattern) (v : Value) (env : Env) (S : Scope) (a : Frame) (here : Pos) (p : Place) (t : Wanted) → IsPattern W q → Takes q → Stands a → KnownIn W S.known
       → Solves a.values (pattern_items q S.known here p t) → Has W v (of a t) → matches q v env ≡ Val None → ⊥
   taken_here q v env S a here p t proper takes bare same sol has e =
       steps.taken (q ∷ []) v (of a t) env (pattern_typed W q S.known a here p t proper bare same sol, tt) takes has (e, tt)
@@ -264,8 +275,8 @@ module _ (W : World) (steps : StepsKeepTypes W) where
     abbrev start : Pos
     start = pattern_start nowhere q
 
-    abbrev c : Covered W ds S p a ok.known ok.named ok.apart ok.stands ok.solves (later (MoreGroup (Destructure q e) gs) U) (destructured q e)
-    c = covered W ds S p a ok.known ok.named ok.apart ok.stands ok.solves (later (MoreGroup (Destructure q e) gs) U) (destructured q e) (inside (destructured q e) (inl refl))
+    abbrev c : Covered W ds S p a refl ok.named ok.apart ok.stands ok.solves (later (MoreGroup (Destructure q e) gs) U) (destructured q e)
+    c = covered W ds S p a refl ok.named ok.apart ok.stands ok.solves (later (MoreGroup (Destructure q e) gs) U) (destructured q e) (inside (destructured q e) (inl refl))
 
     patterns : (k : ℕ) (r : Place) (g : Frame) (place : Place) (u : Wanted) → Solves g.values (d.list (stages.scopes k r) place u)
         → Solves g.values (pattern_items q (stages.scopes k r).known start (child place 0) u)
@@ -273,13 +284,13 @@ module _ (W : World) (steps : StepsKeepTypes W) where
         solves_left g (pattern_items q (stages.scopes k r).known start (child place 0) u) (items e (stages.scopes k r) start (child place 1) u) solved
 
     known_at : (k : ℕ) (r : Place) → (stages.scopes k r).known ≡ S.known
-    known_at k r = (stage_wider W.known (Hs W ds S p a) (T W ds S p a) p 0 a (later (MoreGroup (Destructure q e) gs) U) k r).known ∙ (last_alike (Hs W ds S p a) (T W ds S p a)).known
+    known_at k r = (stage_wider S.known (Hs W ds S p a) (T W ds S p a) p 0 a (later (MoreGroup (Destructure q e) gs) U) k r).known ∙ (last_alike (Hs W ds S p a) (T W ds S p a)).known
 
     well : EndsWell (IfMatched (λ inner. Fits W inner (stages.hidden c.stage) (bind_pattern q (child c.place 0) c.type (stages.scopes c.stage c.at_place)) a)) (matches q v env)
     well =
         match_good W steps (stages.hidden c.stage) a ok.stands q simple.0 v env (stages.scopes c.stage c.at_place) start (child c.place 0) c.type
         (patterns c.stage c.at_place a c.place c.type c.solves) (typed c.stage c.at_place a c.at_stage c.member c.place c.type c.solves)
-        (stage_fits W ds S p a ok.known ok.named ok.apart ok.stands ok.solves (later (MoreGroup (Destructure q e) gs) U) env c.stage c.at_place a c.at_stage f)
+        (stage_fits W ds S p a refl ok.named ok.apart ok.stands ok.solves (later (MoreGroup (Destructure q e) gs) U) env c.stage c.at_place a c.at_stage f)
 
     -- the names have their types at each stage
     bound : (b : Binds q v) (k : ℕ) (r : Place) (g : Frame) → AtStage stages k r g → Among d (group_at (Hs W ds S p a) k) → (place : Place) (t : Wanted)
@@ -293,7 +304,7 @@ module _ (W : World) (steps : StepsKeepTypes W) where
     serves : (b : Binds q v) (x : Ref) (w : Value) → later gs U x ≡ false → lookup x (bind_all b.binds Nil) ≡ Val w → (entry : Entry) → entry_of last x ≡ Some entry
         → Serves (λ g. Has W w g) entry last a
     serves b x w n is entry found = elim (yes_or_no (among x (bound_by q))) [
-      | inl own ↦ serve W ds S p a ok.known ok.named ok.apart ok.stands ok.solves (later (MoreGroup (Destructure q e) gs) U) d x (λ g. Has W w g) (inside d (inl refl)) own
+      | inl own ↦ serve W ds S p a refl ok.named ok.apart ok.stands ok.solves (later (MoreGroup (Destructure q e) gs) U) d x (λ g. Has W w g) (inside d (inl refl)) own
           (λ note none known place u. (let z : None ≡ Some note = none in absurd cc))
           (λ k r g st m place t solved u named. subst (λ o. EndsWell (λ z. Has W z (of g u)) o) is (bound b k r g st m place t solved x u own named)) entry found
       | inr other ↦ (let z : Stuck ≡ Val w = sym (b.leaves x other Nil) ∙ is in absurd cc)
@@ -313,7 +324,7 @@ module _ (W : World) (steps : StepsKeepTypes W) where
         → EndsWell (IfMatched (λ inner. Fits W inner (stages.hidden c.stage) (bind_pattern q (child c.place 0) c.type (stages.scopes c.stage c.at_place)) a)) o
         → EndsWell (λ inner. Fits W inner (later gs U) last a) (on_match o (λ inner. Val inner) Stuck)
     end_good (Val None) is ends =
-        absurd (taken_here q v env (stages.scopes c.stage c.at_place) a start (child c.place 0) c.type simple.0 simple.1 ok.stands (known_at c.stage c.at_place ∙ ok.known)
+        absurd (taken_here q v env (stages.scopes c.stage c.at_place) a start (child c.place 0) c.type simple.0 simple.1 ok.stands (subst (KnownIn W) (sym (known_at c.stage c.at_place)) ok.known)
         (patterns c.stage c.at_place a c.place c.type c.solves) (typed c.stage c.at_place a c.at_stage c.member c.place c.type c.solves) is)
     end_good (Val (Some inner)) is ends =
         let b = match_binds q v env inner is in
@@ -334,21 +345,20 @@ module _ (W : World) (steps : StepsKeepTypes W) where
   abbrev unbound : List Declaration → (Ref → Bool) → Ref → Bool
   unbound ds U y = defines (definitions (groups_in ds)) y || (among y (given_in ds) || U y)
 
-  given_entry : (x : Ref) (k : canon.Known) (g : GivenServes W x k) (S : Scope) → S.names ≡ [] → S.known ≡ W.known → entry_of S x ≡ Some (Instance g.scheme)
-  given_entry x k g S empty same =
+  given_entry : (x : Ref) (k : canon.Known) (S : Scope) (g : GivenServes W S.known x k) → S.names ≡ [] → entry_of S x ≡ Some (Instance g.scheme)
+  given_entry x k S g empty =
       ap (λ ns. option_or (entry_at (same_ref x) ns) (elsewhere S.known x)) empty
-      ∙ (ap (elsewhere S.known) g.name_is ∙ ap (λ o. option_map (λ s. Instance s) o) (ap (λ z. z g.home g.name) same ∙ g.known_is))
+      ∙ (ap (elsewhere S.known) g.name_is ∙ ap (λ o. option_map (λ s. Instance s) o) g.known_is)
 
-  abbrev AllServed : Type 0
-  AllServed = (x : Ref) (k : canon.Known) → IsConstructor W x k ⊎ IsRecordMaker W x k → GivenServes W x k
+  abbrev pub AllServed : Known → Type 0
+  AllServed K = (x : Ref) (k : canon.Known) → IsTyped W K x k → GivenServes W K x k
 
   module _ (call : Call) (calls : CallOk call) where
     mutual
       eval_good : (e : Expr) (env : Env) (U : Ref → Bool) (S : Scope) (a : Frame) (here : Pos) (p : Place) (w : Wanted) → Simple W e → Stands a → Without U (used e) → Fits W env U S a
           → Solves a.values (items e S here p w) → Good (eval_with call e env) (of a w)
       eval_good (Is (literal.Int n)) env U S a here p w simple bare free f sol =
-          number_is_int (of a (at (child p 0))) (standing_number a bare (value a.values (at (child p 0))) sol.0) (bare_kept a.stands bare.bare (value a.values (at (child p 0))))
-          ∙ up a (at (child p 0)) w sol.1.0
+          ap (meets Number) (sym (up a (at (child p 0)) w sol.1.0)) ∙ standing_number a bare (value a.values (at (child p 0))) sol.0
       eval_good (Is (literal.Char us)) env U S a here p w simple bare free f sol = inr (up a char_type w sol.0)
       eval_good (Is (literal.Text us)) env U S a here p w simple bare free f sol = inl (up a string_type w sol.0)
       eval_good (NameOf x) env U S a here p w simple bare free f sol = uses_end_well W env U S a x here p w f bare free.0 sol
@@ -428,16 +438,16 @@ module _ (W : World) (steps : StepsKeepTypes W) where
           let same : listed.scope ≡ last = listed_scope (Hs W ds S (child p 0) a) (T W ds S (child p 0) a) (child p 0) 0 in
           let ok : IsLet ds S (child p 0) a = record {
             known = fits_known W env U S a f;
-            named = definitions_named gs simple.2;
+            named = definitions_named gs S.known (fits_known W env U S a f) simple.2;
             apart = simple.0;
             stands = bare;
-            solves = solves_left a listed.items (items e listed.scope here (child p 1) w) sol;
+            solves = solves_right a (around_items (in_written_order ds) S.constants) (list_groups (Hs W ds S (child p 0) a) (T W ds S (child p 0) a) (child p 0) 0).items (solves_left a listed.items (items e listed.scope here (child p 1) w) sol);
           } in
           let body : Solves a.values (items e last here (child p 1) w) =
           subst (λ R. Solves a.values (items e R here (child p 1) w)) same (solves_right a listed.items (items e listed.scope here (child p 1) w) sol) in
           then_well (λ inner. Fits W inner U last a) (λ v. Has W v (of a w)) (bind_with call gs env) (λ inner. eval_with call e inner)
           (bind_good gs env ds U S a (child p 0) ok (λ d m. m) simple.2 simple.1 (all_left (λ x. U x ≡ false) (used_groups gs) (used e) free)
-          (fits_start W ds S (child p 0) a ok.known ok.named env U f))
+          (fits_start W ds S (child p 0) a refl ok.named env U f))
           (λ inner g. eval_good e inner U last a here (child p 1) w simple.3 bare (all_right (λ x. U x ≡ false) (used_groups gs) (used e) free) g body)
       eval_good (Case e bs) env U S a here p w simple bare free f sol =
           let t = at (child p 0) in
@@ -468,7 +478,7 @@ module _ (W : World) (steps : StepsKeepTypes W) where
       group_good (Together fs) gs env ds U S a p ok inside simple earlier free f =
           let last = Last W ds S p a in
           let V = later gs U in
-          functions_fit W ds S p a ok.known ok.named ok.apart ok.stands ok.solves V fs env (λ d m. inside d (among_front d (function_definitions fs) (definitions gs) m)) simple
+          functions_fit W ds S p a refl ok.named ok.apart ok.stands ok.solves V fs env (λ d m. inside d (among_front d (function_definitions fs) (definitions gs) m)) simple
           (without_or (defines (definitions gs)) U (used_functions fs) earlier.0 free)
           (fits_shown W env (later (MoreGroup (Together fs) gs) U) (hides fs V) last a (λ y n.
           let o = hides_not fs V y n in
@@ -485,14 +495,14 @@ module _ (W : World) (steps : StepsKeepTypes W) where
           → Solves g.values (list (stages.scopes k q) place v) → Good (eval_with call e env) (of g v) =
           λ k q g st m place v solved. good_as (eval_with call e env) (of g (at (child place 1))) (of g v) (up g (at (child place 1)) v solved.0)
           (eval_good e env (stages.hidden k) (stages.scopes k q) g title.place (child place 1) (at (child place 1)) simple st.stands
-          (stage_free W ds S p a ok.known ok.named ok.apart ok.stands ok.solves V k d m free_v)
-          (stage_fits W ds S p a ok.known ok.named ok.apart ok.stands ok.solves V env k q g st f) solved.1) in
-          let c = covered W ds S p a ok.known ok.named ok.apart ok.stands ok.solves V d (inside d (inl refl)) in
+          (stage_free W ds S p a refl ok.named ok.apart ok.stands ok.solves V k d m free_v)
+          (stage_fits W ds S p a refl ok.named ok.apart ok.stands ok.solves V env k q g st f) solved.1) in
+          let c = covered W ds S p a refl ok.named ok.apart ok.stands ok.solves V d (inside d (inl refl)) in
           then_each (λ v. Has W v (of a c.type)) (λ inner. Fits W inner (later gs U) last a) (eval_with call e env) (λ v. Val (Bind title.name v env))
           (typed c.stage c.at_place a c.at_stage c.member c.place c.type c.solves) (λ v is. (
-            λ n entry found. serve W ds S p a ok.known ok.named ok.apart ok.stands ok.solves V d title.name (λ t. Has W v t) (inside d (inl refl)) (title_own W ds S p a ok.known ok.named ok.apart ok.stands ok.solves V title)
-                (title_noted W ds S p a ok.known ok.named ok.apart ok.stands ok.solves V title (used e) list) (λ k q g st m place u solved t named_t.
-                subst (λ x. Has W v (of g x)) (one_type_of W ds S p a ok.known ok.named ok.apart ok.stands ok.solves V title.name u t named_t)
+            λ n entry found. serve W ds S p a refl ok.named ok.apart ok.stands ok.solves V d title.name (λ t. Has W v t) (inside d (inl refl)) (title_own W ds S p a refl ok.named ok.apart ok.stands ok.solves V title)
+                (title_noted W ds S p a refl ok.named ok.apart ok.stands ok.solves V title (used e) list) (λ k q g st m place u solved t named_t.
+                subst (λ x. Has W v (of g x)) (one_type_of W ds S p a refl ok.named ok.apart ok.stands ok.solves V title.name u t named_t)
                 (subst (λ o. Good o (of g u)) is (typed k q g st m place u solved))) entry found,
             fits_shown W env V (or_named title.name (later gs U)) last a (λ y n.
                 let o = not_or (same_ref y title.name) (later gs U y) n in
@@ -509,10 +519,10 @@ module _ (W : World) (steps : StepsKeepTypes W) where
           let typed : (k : ℕ) (r : Place) (g : Frame) → AtStage stages k r g → Among d (group_at (Hs W ds S p a) k) → (place : Place) (v : Wanted)
           → Solves g.values (d.list (stages.scopes k r) place v) → Good (eval_with call e env) (of g v) =
           λ k r g st m place v solved. eval_good e env (stages.hidden k) (stages.scopes k r) g start (child place 1) v simple.1 st.stands
-          (stage_free W ds S p a ok.known ok.named ok.apart ok.stands ok.solves V k d m free_v)
-          (stage_fits W ds S p a ok.known ok.named ok.apart ok.stands ok.solves V env k r g st f)
+          (stage_free W ds S p a refl ok.named ok.apart ok.stands ok.solves V k d m free_v)
+          (stage_fits W ds S p a refl ok.named ok.apart ok.stands ok.solves V env k r g st f)
           (solves_right g (pattern_items q (stages.scopes k r).known start (child place 0) v) (items e (stages.scopes k r) start (child place 1) v) solved) in
-          let c = covered W ds S p a ok.known ok.named ok.apart ok.stands ok.solves V d (inside d (inl refl)) in
+          let c = covered W ds S p a refl ok.named ok.apart ok.stands ok.solves V d (inside d (inl refl)) in
           then_each (λ v. Has W v (of a c.type)) (λ inner. Fits W inner (later gs U) last a) (eval_with call e env) (λ v. on_match (matches q v env) (λ inner. Val inner) Stuck)
           (typed c.stage c.at_place a c.at_stage c.member c.place c.type c.solves)
           (λ v is. destructure_good q e gs env ds U S a p ok inside simple.0 f v (λ k r g st m place u solved. subst (λ o. Good o (of g u)) is (typed k r g st m place u solved)))
@@ -579,19 +589,19 @@ module _ (W : World) (steps : StepsKeepTypes W) where
 
     -- ---- the declarations of a module
 
-    declare_good : AllServed → (ds : List Declaration) (env : Env) (es : List Definition) (U : Ref → Bool) (S : Scope) (a : Frame) (p : Place) → IsLet es S p a → S.names ≡ []
-        → ((d : Definition) → Among d (definitions (groups_in ds)) → Among d es) → AreMakers W ds → UseMakersBefore ds → UseEarlier (groups_in ds) → Without (defines es) (given_in ds)
+    declare_good : (ds : List Declaration) (env : Env) (es : List Definition) (U : Ref → Bool) (S : Scope) (a : Frame) (p : Place) → AllServed S.known → IsLet es S p a → S.names ≡ []
+        → ((d : Definition) → Among d (definitions (groups_in ds)) → Among d es) → AreTyped W S.known ds → UseGivenBefore ds → UseEarlier (groups_in ds) → Without (defines es) (given_in ds)
         → SimpleGroups W (groups_in ds) → Without U (used_groups (groups_in ds)) → Fits W env (unbound ds U) (Last W es S p a) a
         → EndsWell (λ inner. Fits W inner U (Last W es S p a) a) (declare_with call ds env)
-    declare_good served [] env es U S a p ok empty inside makers before earlier others simple free f = f
-    declare_good served (Given x k ∷ ds) env es U S a p ok empty inside makers before earlier others simple free f =
+    declare_good [] env es U S a p served ok empty inside makers before earlier others simple free f = f
+    declare_good (Given x k ∷ ds) env es U S a p served ok empty inside makers before earlier others simple free f =
         let last = Last W es S p a in
         let g = served x k makers.0 in
         then_well (Instances W g.scheme) (λ inner. Fits W inner U last a) (known (functions.Given k) NoValue) (λ v. declare_with call ds (Bind x v env)) g.ends (λ v serves.
-        declare_good served ds (Bind x v env) es U S a p ok empty inside makers.1 before earlier others.1 simple free (
+        declare_good ds (Bind x v env) es U S a p served ok empty inside makers.1 before earlier others.1 simple free (
           λ n entry found.
               let e : Instance g.scheme ≡ entry =
-              (let z : Some (Instance g.scheme) ≡ Some entry = sym (same_before W es S p a ok.known ok.named x others.0 ∙ given_entry x k g S empty ok.known) ∙ found in cc) in
+              (let z : Some (Instance g.scheme) ≡ Some entry = sym (same_before W es S p a refl ok.named x others.0 ∙ given_entry x k S g empty) ∙ found in cc) in
               subst (λ o. Serves (λ t. Has W v t) o last a) e (serves last a),
           fits_shown W env (unbound (Given x k ∷ ds) U) (or_named x (unbound ds U)) last a (λ y n.
               let o = not_or (same_ref y x) (unbound ds U y) n in
@@ -600,12 +610,12 @@ module _ (W : World) (steps : StepsKeepTypes W) where
               or_not (defines (definitions (groups_in ds)) y) (among y (x ∷ given_in ds) || U y) m.0
               (or_not (among y (x ∷ given_in ds)) (U y) (ap (λ b. if b then true else among y (given_in ds)) o.0 ∙ l.0) l.1)) (agree_refl last a) f,
         ))
-    declare_good served (Define g ∷ ds) env es U S a p ok empty inside makers before earlier others simple free f =
+    declare_good (Define g ∷ ds) env es U S a p served ok empty inside makers before earlier others simple free f =
         let last = Last W es S p a in
         then_well (λ inner. Fits W inner (unbound ds U) last a) (λ inner. Fits W inner U last a) (group_with call g env) (λ inner. declare_with call ds inner)
         (group_good g (groups_in ds) env es (λ y. among y (given_in ds) || U y) S a p ok inside simple.0 earlier
         (without_or (λ y. among y (given_in ds)) U (used_group g) before.0 (all_left (λ x. U x ≡ false) (used_group g) (used_groups (groups_in ds)) free)) f)
-        (λ inner h. declare_good served ds inner es U S a p ok empty (λ d m. inside d (among_append d (group_definitions g) (definitions (groups_in ds)) m)) makers before.1
+        (λ inner h. declare_good ds inner es U S a p served ok empty (λ d m. inside d (among_append d (group_definitions g) (definitions (groups_in ds)) m)) makers before.1
         (rest_earlier g (groups_in ds) earlier) others simple.1 (all_right (λ x. U x ≡ false) (used_group g) (used_groups (groups_in ds)) free) h)
 
   -- ---- calls
@@ -670,17 +680,17 @@ module _ (W : World) (steps : StepsKeepTypes W) where
       })
 
   enter_good : (does : Expr → Env → End Value) → BodyOk does → CallOk (λ f v. enter does f v)
-  enter_good does ok (IntV n) v a b has arg = absurd (let e : int_type ≡ function a b = has in cc)
+  enter_good does ok (IntV n) v a b has arg = not_both false has refl
   enter_good does ok (TextV us) v a b has arg = elim has as (λ _. Good Stuck b) [ inl e ↦ absurd (cc) | inr e ↦ absurd (cc) ]
   enter_good does ok (TagV tag vs) v a b has arg = absurd (steps.no_function tag vs has.0 a b has.1)
   enter_good does ok (RecordV fs) v a b has arg = absurd (let e : Record has.0 Closed ≡ function a b = has.1 in cc)
-  enter_good does ok (WireV w) v a b has arg = absurd has
+  enter_good does ok (WireV w) v a b has arg = absurd (let e : sent_type has.port ≡ function a b = has.is in cc)
   enter_good does ok (KnownV k vs) v a b has arg = steps.knows k vs has.0 v a b has.2 has.1 arg
   enter_good does ok (CloV env NoPattern e) v a b has arg = not_both false has.some refl
   enter_good does ok (CloV env (MorePattern q qs) e) v a b has arg =
       closure_good does ok env q qs e v a b has.hidden has.scope has.frame has.here has.patterns_at has.first has.parameters has.body_at has.result has.stands has.fits has.patterns has.body has.is has.is_checked arg
 
-  call_good : (n : ℕ) → CallOk (call_at n)
+  pub call_good : (n : ℕ) → CallOk (call_at n)
   call_good zero f v a b has arg = enter_good (λ e inner. OutOfFuel) (λ e env U S g here p w simple stands free fits sol. tt) f v a b has arg
   call_good (suc n) f v a b has arg =
       enter_good (λ e inner. eval_with (call_at n) e inner) (λ e env U S g here p w simple stands free fits sol.
@@ -692,28 +702,35 @@ module _ (W : World) (steps : StepsKeepTypes W) where
 
   -- ---- whole modules
 
-  abbrev Declares : List Definition → ℕ → List Declaration → Env → (Ref → Bool) → Scope → Frame → Place → Type 0
-  Declares es n ds env U S a p =
-      Solves a.values (list_definitions es S p).items → EndsWell (λ inner. Fits W inner U (list_definitions es S p).scope a) (declare_with (call_at n) ds env)
-
-  pub module_good : AllServed → (n : ℕ) (m : Module) (known : Known) (env : Env) (U : Ref → Bool) (a : Frame) (p : Place) → IsPlain W m
-      → Without U (used_groups (groups_in m.declarations)) → Stands a → Fits W env U (module_scope m known) a → Solves a.values (module_items m known p)
-      → EndsWell (λ inner. Fits W inner U (scope_after m known p) a) (declare_with (call_at n) m.declarations env)
-  module_good served n m known env U a p plain free bare f =
+  -- Those declarations of a module that are there, where what else the module defines is hidden.
+  pub part_good : (n : ℕ) (m : Module) (ds : List Declaration) (known : Known) (env : Env) (U : Ref → Bool) (a : Frame) (p : Place) → AllServed (known_in m known)
+      → AllNamed (known_in m known) (module_definitions m) → AreApart (module_definitions m)
+      → ((d : Definition) → Among d (definitions (groups_in ds)) → Among d (module_definitions m))
+      → ((y : Ref) → U y ≡ false → defines (definitions (groups_in ds)) y ≡ false → defines (module_definitions m) y ≡ false)
+      → AreTyped W (known_in m known) ds → UseGivenBefore ds → UseEarlier (groups_in ds) → Without (defines (module_definitions m)) (given_in ds) → SimpleGroups W (groups_in ds)
+      → Without U (used_groups (groups_in ds)) → Stands a → Fits W env (before_own m ds U) (module_scope m known) a → Solves a.values (module_items m known p)
+      → EndsWell (λ inner. Fits W inner U (scope_after m known p) a) (declare_with (call_at n) ds env)
+  part_good n m ds known env U a p served named apart inside covers given before earlier others simple free stands f sol =
       let S = module_scope m known in
-      let ds = m.declarations in
-      let es = definitions (groups_in ds) in
-      subst (λ z. Declares z n ds env U S a p) (sym (declared_definitions ds)) (λ sol.
-      let ok : IsLet es S p a = record {
-        known = fits_known W env U S a f;
-        named = definitions_named (groups_in ds) plain.simple;
-        apart = plain.apart;
-        stands = bare;
-        solves = sol;
-      } in
+      let es = module_definitions m in
+      let start = before_own m ds U in
+      let ok : IsLet es S p a = record { known = fits_known W env start S a f; named = named; apart = apart; stands = stands; solves = solves_right a (around_items (in_written_order es) S.constants) (list_groups (Hs W es S p a) (T W es S p a) p 0).items sol } in
       let last = Last W es S p a in
       subst (λ R. EndsWell (λ inner. Fits W inner U R a) (declare_with (call_at n) ds env)) (sym (listed_scope (Hs W es S p a) (T W es S p a) p 0))
-      (declare_good (call_at n) (call_good n) served ds env es U S a p ok refl (λ d m. m) plain.makers plain.before plain.earlier plain.others plain.simple free
-      (fits_shown W env (λ y. defines es y || U y) (unbound ds U) last a (λ y o.
-      let k = not_or (defines es y) (among y (given_in ds) || U y) o in
-      or_not (defines es y) (U y) k.0 (not_or (among y (given_in ds)) (U y) k.1).1) (agree_refl last a) (fits_start W es S p a ok.known ok.named env U f))))
+      (declare_good (call_at n) (call_good n) ds env es U S a p served ok refl inside given before earlier others simple free
+      (fits_shown W env (λ y. defines es y || start y) (unbound ds U) last a (λ y o.
+      let k = not_or (defines (definitions (groups_in ds)) y) (among y (given_in ds) || U y) o in
+      let shown = (not_or (among y (given_in ds)) (U y) k.1).1 in
+      let none = covers y shown k.0 in
+      or_not (defines es y) (start y) none (or_not (defines es y) (among y (given_in ds) || U y) none k.1)) (agree_refl last a) (fits_start W es S p a refl ok.named env start f)))
+
+  pub module_good : (n : ℕ) (m : Module) (known : Known) (env : Env) (U : Ref → Bool) (a : Frame) (p : Place) → AllServed (known_in m known) → IsPlain W (known_in m known) m
+      → Without U (used_groups (groups_in m.declarations)) → Stands a → Fits W env (before_own m m.declarations U) (module_scope m known) a → Solves a.values (module_items m known p)
+      → EndsWell (λ inner. Fits W inner U (scope_after m known p) a) (declare_with (call_at n) m.declarations env)
+  module_good n m known env U a p served plain free stands f sol =
+      let ds = m.declarations in
+      let e = declared_definitions ds in
+      part_good n m ds known env U a p served
+      (subst (AllNamed (known_in m known)) (sym e) (definitions_named (groups_in ds) (known_in m known) (fits_known W env (before_own m ds U) (module_scope m known) a f) plain.simple))
+      (subst AreApart (sym e) plain.apart) (λ d k. subst (Among d) (sym e) k) (λ y _ n. ap (λ es. defines es y) e ∙ n) plain.given plain.before plain.earlier
+      (subst (λ es. Without (defines es) (given_in ds)) (sym e) plain.others) plain.simple free stands f sol

@@ -1,5 +1,5 @@
 -- The law of expressions speaks of the sample.
-use Rattle.std.proofs.Common.{◌≡◌, true, Some, refl}
+use Rattle.std.proofs.Common.{[], ◌≡◌, true, Some, refl}
 use Rattle.elm_canon.specs.declared.reference.Ref.{Ref}
 use Rattle.elm_canon.specs.declared.reference.Ref.TheVariants.{Local, Top}
 use Rattle.binding_groups.specs.InOrder.{ordered_groups}
@@ -15,6 +15,6 @@ unfolding ordered_groups
 sample_meets = record {
   simple = (((refl, tt), tt), (tt, tt), (tt, tt), tt);
   free = (refl, tt);
-  fits = (refl, nothing);
+  fits = (([], refl), nothing);
   solves = (refl, (refl, (refl, (tt, (refl, (refl, (refl, (refl, tt))))))));
 }

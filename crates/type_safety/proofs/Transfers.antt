@@ -1,6 +1,6 @@
 -- Environments that fit a scope in a frame, and another scope in another frame: where what serves a name there serves it
 -- here.
-use Rattle.std.proofs.Common.{◌≡◌, Bool, false, Some, inl, inr, refl, ◌∙◌}
+use Rattle.std.proofs.Common.{◌≡◌, Bool, false, Some, inl, inr, refl, sym, subst}
 use Rattle.elm_canon.specs.Names.{same_ref}
 use Rattle.elm_canon.specs.declared.reference.Ref.{Ref}
 use Rattle.elm_canon.specs.Tree.{Functions, NoFunction, MoreFunction}
@@ -8,10 +8,10 @@ use Rattle.elm_meaning.specs.Values.{Env, Nil, Bind, BindGroup}
 use Rattle.elm_type.specs.Classes.{Ground}
 use Rattle.type_items.specs.Scopes.{Entry, Scope, entry_of}
 use Rattle.typed_values.specs.Frames.{Frame, Agree, Serves}
-use Rattle.typed_values.specs.World.{World}
+use Rattle.typed_values.specs.World.{World, KnownIn}
 use Rattle.typed_values.specs.Typed.{Stages, Lists, Members, hides, or_named, Has, Fits}
 use Rattle.typed_values.proofs.Names.{yes_or_no, not_both, not_or, or_not}
-use Rattle.typed_values.proofs.Envs.{Wider, serves_wider, serves_move}
+use Rattle.typed_values.proofs.Envs.{Wider, serves_wider, serves_move, fits_known}
 
 -- what serves some entry of the name in the one serves this entry in the other
 pub record Carried (S : Scope) (a : Frame) (T : Scope) (g : Frame) (y : Ref) (entry : Entry) : Type 1 where
@@ -48,24 +48,28 @@ module _ (S : Scope) (a : Frame) (T : Scope) (g : Frame) where
     members_transfer w s fs (or_named title.name h) (or_named title.name k) (transfer_more h k title.name t) m.1,
   )
 
-  pub fits_transfer : (w : World) (env : Env) (h k : Ref → Bool) → T.known ≡ S.known → Transfer S a T g h k → Fits w env h S a → Fits w env k T g
-  fits_transfer w Nil h k known t i = (
-    known ∙ i.0,
+  -- where the other scope is one of the world
+  pub fits_carried : (w : World) (env : Env) (h k : Ref → Bool) → KnownIn w T.known → Transfer S a T g h k → Fits w env h S a → Fits w env k T g
+  fits_carried w Nil h k known t i = (
+    known,
     λ x entry e. elim (yes_or_no (k x)) [
       | inl y ↦ y
       | inr n ↦ (let r = t x n in let c = r.carried entry e in not_both (h x) (i.1 x c.other c.is) r.shown)
     ],
   )
-  fits_transfer w (Bind x v env) h k known t i = (
+  fits_carried w (Bind x v env) h k known t i = (
     (λ n entry e. let r = t x n in let c = r.carried entry e in c.serves (λ t2. Has w v t2) (i.0 r.shown c.other c.is)),
-    fits_transfer w env (or_named x h) (or_named x k) known (transfer_more h k x t) i.1,
+    fits_carried w env (or_named x h) (or_named x k) known (transfer_more h k x t) i.1,
   )
-  fits_transfer w (BindGroup fs env) h k known t i = record {
+  fits_carried w (BindGroup fs env) h k known t i = record {
     stages = i.stages;
     members = members_transfer w i.stages fs h k t i.members;
-    rest = fits_transfer w env (hides fs h) (hides fs k) known (transfer_all fs h k t) i.rest;
+    rest = fits_carried w env (hides fs h) (hides fs k) known (transfer_all fs h k t) i.rest;
     closing = i.closing;
   }
+
+  pub fits_transfer : (w : World) (env : Env) (h k : Ref → Bool) → T.known ≡ S.known → Transfer S a T g h k → Fits w env h S a → Fits w env k T g
+  fits_transfer w env h k known t i = fits_carried w env h k (subst (KnownIn w) (sym known) (fits_known w env h S a i)) t i
 
 -- an entry that is the same in both
 pub carried_same : (S : Scope) (a : Frame) (T : Scope) (g : Frame) (y : Ref) (entry : Entry) → entry_of S y ≡ Some entry → Agree S a g → Wider S T → Carried S a T g y entry

@@ -25,7 +25,7 @@ abbrev pub sample_expression : Expr
 sample_expression = Let (MoreGroup (Constant sample_title (Is (Int (pos 5)))) NoGroup) (NameOf (Local (codes "x")))
 
 abbrev pub sample_scope : Scope
-sample_scope = record { known = sample.known; names = []; constants = [] }
+sample_scope = record { known = sample.known []; names = []; constants = [] }
 
 -- names of modules
 abbrev pub sample_hidden : Ref → Bool

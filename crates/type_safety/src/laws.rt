@@ -14,14 +14,14 @@ pub fn group_law()
 /// Where the unions of a program are as they are declared, an expression whose items are solved is not Stuck, with any
 /// fuel, and its value has the type that is wanted of it. It is said of expressions of whose branches, parameters and
 /// destructured patterns nothing is reported missing, whose `let`s define each name once, and whose definitions use
-/// what is bound before them; and of types that name no constant that both has a class and is the rest of a record.
-/// Ports and the unit at a place of a text have no typed values.
+/// what is bound before them. They take no command or subscription apart.
 pub fn expression_law()
     ensures { ExpressionsKeepTypes }
 {}
 
-/// Where the items of a module without ports are solved, and what it imports is bound to what has its types, the
-/// declarations of the module are not Stuck, with any fuel, and what they bind has its types.
+/// Where the items of a module are solved, and what it imports is bound to what has its types, the declarations of the
+/// module are not Stuck, with any fuel, and what they bind has its types. Its ports carry what the program's ports of
+/// their names do.
 pub fn module_law()
     ensures { ModulesKeepTypes }
 {}

@@ -1,33 +1,40 @@
 -- Functions without a body: with all their arguments they end as their types say, and before that they wait for more.
-use Rattle.std.proofs.Common.{◌≡◌, ℕ, suc, ◌+◌, ℤ, List, [], ◌∷◌, ◌++◌, length, Bool, true, false, inl, inr, refl, sym, ap, ◌∙◌, subst, arith, eqb-true, eq-eqb}
-use Rattle.std.specs.Prelude.{not, if◌then◌else◌, ◌==◌, codes, int_rem, ◌+ℤ◌}
+use Rattle.std.proofs.Common.{◌≡◌, ℕ, zero, suc, pos, negsuc, Some, ◌+◌, ℤ, List, [], ◌∷◌, ◌++◌, length, Bool, true, false, inl, inr, refl, sym, ap, ◌∙◌, subst, arith, eqb-true, eq-eqb}
+use Rattle.std.proofs.lemmas.Slice.Eq.{bytes_eq-Decides}
+use Rattle.wire_value.specs.Wire.{Wire}
+use Rattle.meaning_base.specs.Texts.{unit_at}
+use Rattle.std.specs.Prelude.{◌||◌, not, if◌then◌else◌, ◌==◌, codes, int_rem, ◌+ℤ◌}
 use Rattle.std.specs.List.{zip}
 use Rattle.runs.specs.Ends.{End, Val, Crashed, OutOfFuel, Unsafe, Stuck, then_do}
 use Rattle.meaning_base.specs.Numbers.{is_zero, remainder, modulo, are_opposite, and_bits, or_bits, xor_bits, shift_left, shift_right, shift_right_zero}
 use Rattle.elm_canon.specs.Names.{Name}
-use Rattle.elm_canon.specs.Tree.{Maker, RecordMaker, OutPort, InPort}
+use Rattle.elm_canon.specs.Tree.{Maker, RecordMaker, OutPort, InPort, Payload}
 use Rattle.elm_canon.specs.declared.unions.Alternative.{Alternative}
 use Rattle.elm_meaning.specs.Functions as primitives
 use Rattle.elm_meaning.specs.Functions.{Primitive, Bodiless, Given, Getter, Core, arity_of, primitive_arity}
-use Rattle.elm_meaning.specs.Values.{Value, IntV, TextV, RecordV, KnownV, Values, NoValue, MoreValue, FieldValues, count_of, append_values, field_of}
+use Rattle.elm_meaning.specs.Values.{Value, IntV, TextV, RecordV, KnownV, WireV, Values, NoValue, MoreValue, FieldValues, count_of, append_values, field_of}
 use Rattle.elm_meaning.specs.Order.{compares, order_number}
-use Rattle.elm_meaning.specs.Primitives.{primitive, two_ints, given, finish, known}
+use Rattle.elm_meaning.specs.Ports.{unshape}
+use Rattle.elm_meaning.specs.Primitives.{primitive, two_ints, given, of_port, finish, known}
 use Rattle.elm_meaning.specs.Operate.{on_ints}
 use Rattle.elm_type.specs.Types.{Record, Made, NoField, MoreField, Closed, function, functions, int_type, string_type, char_type}
 use Rattle.elm_type.specs.Classes.{Ground}
 use Rattle.elm_type.specs.Rows.{extend, has_field, substitute, sorted}
 use Rattle.elm_type.specs.Rows as rows
 use Rattle.ground_types.specs.Ground.{lacks}
-use Rattle.typed_values.specs.World.{World, IsPrimitive, IsMaker, IsGiven, Takes, Knows, IsSound}
+use Rattle.typed_values.specs.Payloads.{payload_type, IsWire, cmd_type, sub_type}
+use Rattle.typed_values.specs.World.{World, IsPrimitive, IsMaker, IsGiven, Takes, Knows, IsSound, is_port_tag, sent_type}
 use Rattle.typed_values.specs.Typed.{EndsWell, Has, HasEach, HaveFields}
 use Rattle.typed_values.specs.Steps.{EndsAs}
 use Rattle.typed_values.proofs.Names.{not_both}
 use Rattle.typed_values.proofs.Keeping.{and_left}
-use Rattle.typed_values.proofs.Forms.{each_count, int_value, text_value, record_value}
+use Rattle.typed_values.proofs.Rows.{has_inserted}
+use Rattle.typed_values.proofs.Forms.{each_count, with_field, int_value, text_value, record_value}
 use Rattle.typed_values.proofs.Fields.{not_true, type_inserted, field_found, made}
 use Rattle.typed_values.proofs.Unions.{map_length}
 use Rattle.typed_values.proofs.Makers.{built_of}
 use Rattle.typed_values.proofs.Comparing.{Fine, compare_fine}
+use Rattle.typed_values.proofs.Written.{written}
 
 pub fine_well : {X Y : Type 0} (Q : Y → Type 0) (o : End X) (go : X → Y) → Fine o → ((x : X) → Q (go x)) → EndsWell Q (then_do o (λ x. Val (go x)))
 fine_well Q (Val x) go h k = k x
@@ -111,6 +118,12 @@ module _ (w : World) (sound : IsSound w) where
       let by_sign : Fine (if are_opposite (int_rem b a) a then more else same) = choice_fine (are_opposite (int_rem b a) a) more same tt tt in
       choice_fine (is_zero a) (Crashed (codes "modBy 0")) (if are_opposite (int_rem b a) a then more else same) tt by_sign
 
+  unit_well : (i : ℤ) (us : List ℕ) → EndsAs w int_type (then_do (unit_at i us) (λ u. Val (IntV u)))
+  unit_well i [] = tt
+  unit_well (pos zero) (u ∷ us) = refl
+  unit_well (pos (suc i)) (u ∷ us) = unit_well (pos i) us
+  unit_well (negsuc i) (u ∷ us) = tt
+
   abbrev Does : Primitive → Ground → Values → Type 0
   Does p r vs = EndsAs w r (primitive p vs)
 
@@ -144,7 +157,17 @@ module _ (w : World) (sound : IsSound w) where
   primitive_well primitives.Length ts r vs is h =
       subst (λ g. Does primitives.Length g vs) (sym is.1) (alone (Does primitives.Length int_type) vs string_type (subst (λ us. HasEach w vs us) is.0 h)
       (λ v t. one_text (λ z. Does primitives.Length int_type (MoreValue z NoValue)) v t (λ us. refl)))
-  primitive_well primitives.UnitAt ts r vs is h = absurd is
+  primitive_well primitives.UnitAt ts r vs is h =
+      subst (λ g. Does primitives.UnitAt g vs) (sym is.1) (elim is.0 [
+        | inl text ↦ before (Does primitives.UnitAt int_type) vs int_type (string_type ∷ []) (subst (λ us. HasEach w vs us) text h)
+            (λ v us t each. alone (λ z. Does primitives.UnitAt int_type (MoreValue v z)) us string_type each
+            (λ x t2. one_int (λ z. Does primitives.UnitAt int_type (MoreValue z (MoreValue x NoValue))) v t
+            (λ n. one_text (λ z. Does primitives.UnitAt int_type (MoreValue (IntV n) (MoreValue z NoValue))) x t2 (λ us. unit_well n us))))
+        | inr char ↦ before (Does primitives.UnitAt int_type) vs int_type (char_type ∷ []) (subst (λ us. HasEach w vs us) char h)
+            (λ v us t each. alone (λ z. Does primitives.UnitAt int_type (MoreValue v z)) us char_type each
+            (λ x t2. one_int (λ z. Does primitives.UnitAt int_type (MoreValue z (MoreValue x NoValue))) v t
+            (λ n. one_char (λ z. Does primitives.UnitAt int_type (MoreValue (IntV n) (MoreValue z NoValue))) x t2 (λ us. unit_well n us))))
+      ])
   primitive_well primitives.FromUnit ts r vs is h =
       subst (λ g. Does primitives.FromUnit g vs) (sym is.1) (alone (Does primitives.FromUnit string_type) vs int_type (subst (λ us. HasEach w vs us) is.0 h)
       (λ v t. one_int (λ z. Does primitives.FromUnit string_type (MoreValue z NoValue)) v t (λ n. inl refl)))
@@ -171,10 +194,10 @@ module _ (w : World) (sound : IsSound w) where
       subst (λ g. Does primitives.Same g vs) (sym is.1) (alone (Does primitives.Same char_type) vs string_type (subst (λ us. HasEach w vs us) is.0 h)
       (λ v t. one_text (λ z. Does primitives.Same char_type (MoreValue z NoValue)) v t (λ us. inr refl)))
   primitive_well primitives.Compare ts r vs is h =
-      subst (λ g. Does primitives.Compare g vs) (sym is.4)
+      subst (λ g. Does primitives.Compare g vs) (sym is.3)
       (before (Does primitives.Compare int_type) vs is.0 (is.0 ∷ []) (subst (λ us. HasEach w vs us) is.1 h)
       (λ v us t each. alone (λ z. Does primitives.Compare int_type (MoreValue v z)) us is.0 each
-      (λ u t2. fine_well (λ z. Has w z int_type) (compares v u) (λ order. IntV (order_number order)) (compare_fine w sound v u is.0 (is.2, is.3) t t2) (λ order. refl))))
+      (λ u t2. fine_well (λ z. Has w z int_type) (compares v u) (λ order. IntV (order_number order)) (compare_fine w sound v u is.0 is.2 t t2) (λ order. refl))))
 
   -- ---- with all arguments
 
@@ -186,7 +209,17 @@ module _ (w : World) (sound : IsSound w) where
       subst (λ a. EndsAs w r (given (Maker a) vs)) m.is
       (subst (EndsAs w r) (sym (built_of w sound m.home m.name c vs m.among n)) (
         ts,
-        inr (inr (record { home = m.home; name = m.name; constructor_ = c; among = m.among; tag_is = refl; choice = m.choice; parts_are = m.parts_are; is = m.gives })),
+        inl (inr (inr (record {
+          home = m.home;
+          name = m.name;
+          constructor_ = c;
+          among = m.among;
+          tag_is = refl;
+          own = ap (λ a. is_port_tag m.home m.name a.tag) m.is ∙ m.own;
+          choice = m.choice;
+          parts_are = m.parts_are;
+          is = m.gives;
+        }))),
         h,
       ))
 
@@ -198,7 +231,8 @@ module _ (w : World) (sound : IsSound w) where
   field_well : (x : Name) (others : Ground) (r : Ground) (v : Value) → lacks x others ≡ true → Has w v (extend (MoreField x r NoField) others) → EndsAs w r (field_of x v)
   field_well x (Made h ts) r v l has = not_both false l refl
   field_well x (Record gs end) r v l has =
-      let o = record_value w sound v (extend (MoreField x r NoField) (Record gs end)) refl has in
+      let own : has_field x (rows.insert_field x r gs) ≡ true = has_inserted x x r gs ∙ ap (λ b. b || has_field x gs) ((bytes_eq-Decides x x).1 refl) in
+      let o = record_value w sound v (extend (MoreField x r NoField) (Record gs end)) (with_field x end (rows.insert_field x r gs) own) has in
       subst (λ z. EndsAs w r (field_of x z)) (sym o.1) (go o.0 (subst (λ z. Has w z (extend (MoreField x r NoField) (Record gs end))) o.1 has))
     where
       go : (fs : FieldValues) → Has w (RecordV fs) (extend (MoreField x r NoField) (Record gs end)) → EndsAs w r (field_of x (RecordV fs))
@@ -208,11 +242,49 @@ module _ (w : World) (sound : IsSound w) where
           let f = field_found w x fs (rows.insert_field x r gs) r (subst (λ ts. HaveFields w fs ts) same k.2) (type_inserted x r gs (not_true (has_field x gs) (and_left (not (has_field x gs)) _ l))) in
           subst (EndsAs w r) (sym f.is) f.has
 
+  -- what goes out at a port
+  sends_well : (port : Name) (p : Payload) (message : Ground) → w.outs port ≡ Some p → (end : End Wire) → EndsWell (λ x. IsWire p x) end
+      → EndsAs w (cmd_type message) (then_do end (λ x. Val (of_port port (WireV x))))
+  sends_well port p message out (Val x) h = (
+    string_type ∷ sent_type port ∷ [],
+    inr (record {
+      port = port;
+      rest = MoreValue (WireV x) NoValue;
+      carried = sent_type port;
+      tag_is = refl;
+      begins = refl;
+      parts_are = refl;
+      carries = inl (record { message = message; carried_is = refl; is = refl });
+    }),
+    (inl refl, (record { port = port; payload = p; out = out; wire_is = h; is = refl }, tt)),
+  )
+  sends_well port p message out (Crashed t) h = tt
+  sends_well port p message out OutOfFuel h = tt
+  sends_well port p message out Unsafe h = tt
+  sends_well port p message out Stuck h = absurd h
+
   finish_well : (k : Bodiless) (ts : List Ground) (r : Ground) (vs : Values) → Takes w k ts r → HasEach w vs ts → EndsAs w r (finish k vs)
   finish_well (Given (Maker alt)) ts r vs t h = maker_well alt ts r vs t h
   finish_well (Given (RecordMaker xs)) ts r vs t h = record_well xs ts r vs t h
-  finish_well (Given (OutPort port p)) ts r vs t h = absurd t
-  finish_well (Given (InPort port p)) ts r vs t h = absurd t
+  finish_well (Given (OutPort port p)) ts r vs t h =
+      subst (λ g. EndsAs w g (finish (Given (OutPort port p)) vs)) (sym t.4)
+      (alone (λ z. EndsAs w (cmd_type t.0) (finish (Given (OutPort port p)) z)) vs (payload_type p) (subst (λ us. HasEach w vs us) t.3 h)
+      (λ v has. sends_well port p t.0 t.1 (unshape p v) (written w sound p v t.2 has)))
+  finish_well (Given (InPort port p)) ts r vs t h =
+      subst (λ g. EndsAs w g (finish (Given (InPort port p)) vs)) (sym t.3)
+      (alone (λ z. EndsAs w (sub_type t.0) (finish (Given (InPort port p)) z)) vs (function (payload_type p) t.0) (subst (λ us. HasEach w vs us) t.2 h) (λ f has. (
+        string_type ∷ function (payload_type p) t.0 ∷ [],
+        inr (record {
+          port = port;
+          rest = MoreValue f NoValue;
+          carried = function (payload_type p) t.0;
+          tag_is = refl;
+          begins = refl;
+          parts_are = refl;
+          carries = inr (record { message = t.0; payload = p; in_ = t.1; carried_is = refl; is = refl });
+        }),
+        (inl refl, (has, tt)),
+      )))
   finish_well (Getter x) ts r vs t h =
       alone (λ z. EndsAs w r (finish (Getter x) z)) vs (extend (MoreField x r NoField) t.others) (subst (λ us. HasEach w vs us) t.argument h)
       (λ v has. field_well x t.others r v t.without has)
@@ -233,7 +305,7 @@ module _ (w : World) (sound : IsSound w) where
   primitive_count primitives.ShiftRightZero ts r is = ap length is.0
   primitive_count primitives.FromInt ts r is = ap length is.0
   primitive_count primitives.Length ts r is = ap length is.0
-  primitive_count primitives.UnitAt ts r is = absurd is
+  primitive_count primitives.UnitAt ts r is = elim is.0 [ inl text ↦ ap length text | inr char ↦ ap length char ]
   primitive_count primitives.FromUnit ts r is = ap length is.0
   primitive_count primitives.Slice ts r is = ap length is.0
   primitive_count primitives.Find ts r is = ap length is.0
@@ -245,8 +317,8 @@ module _ (w : World) (sound : IsSound w) where
   takes_count (Given (Maker alt)) ts r t =
       ap length (sym t.parts_are) ∙ (map_length (substitute t.choice) t.constructor_.fields ∙ ((sound.unions t.home t.name).counted t.constructor_ t.among ∙ ap (λ a. a.arity) t.is))
   takes_count (Given (RecordMaker xs)) ts r t = t.1
-  takes_count (Given (OutPort port p)) ts r t = absurd t
-  takes_count (Given (InPort port p)) ts r t = absurd t
+  takes_count (Given (OutPort port p)) ts r t = ap length t.3
+  takes_count (Given (InPort port p)) ts r t = ap length t.2
   takes_count (Getter x) ts r t = ap length t.argument
   takes_count (Core p) ts r t = primitive_count p ts r t
 

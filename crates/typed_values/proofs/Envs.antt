@@ -24,7 +24,7 @@ use Rattle.type_items.specs.Uses.{used}
 use Rattle.type_items.specs.Expressions.{items}
 use Rattle.type_items.specs.Solutions.{Solves}
 use Rattle.typed_values.specs.Frames.{Frame, of, Stands, Agree, Serves}
-use Rattle.typed_values.specs.World.{World}
+use Rattle.typed_values.specs.World.{KnownIn, World}
 use Rattle.typed_values.specs.Simple.{Without, Simple}
 use Rattle.typed_values.specs.Typed.{EndsWell, Stages, AtStage, Lists, Members, hides, or_named, Has, Fits}
 use Rattle.typed_values.proofs.Names.{yes_or_no, not_both, not_or, or_not, same_refs, found, skip, first, solves_left, solves_right}
@@ -140,7 +140,7 @@ of_functions f (t ∷ ts) r = ap (function (of f t)) (of_functions f ts r)
 module _ (w : World) where
   pub fits_keep : (env : Env) (h k : Ref → Bool) (S T : Scope) (f : Frame) → Keeps h k S T → Wider S T → Fits w env h S f → Fits w env k T f
   fits_keep Nil h k S T f keeps wide i = (
-    wide.known ∙ i.0,
+    (i.0.0, wide.known ∙ i.0.1),
     λ x entry e. elim (yes_or_no (k x)) [
       | inl y ↦ y
       | inr n ↦ (let o = keeps x n in not_both (h x) (i.1 x entry (o.1 entry e)) o.0)
@@ -196,7 +196,7 @@ module _ (w : World) where
       }) i e
 
   -- the scope knows what is known
-  pub fits_known : (env : Env) (h : Ref → Bool) (S : Scope) (f : Frame) → Fits w env h S f → S.known ≡ w.known
+  pub fits_known : (env : Env) (h : Ref → Bool) (S : Scope) (f : Frame) → Fits w env h S f → KnownIn w S.known
   fits_known Nil h S f i = i.0
   fits_known (Bind x v env) h S f i = fits_known env (or_named x h) S f i.1
   fits_known (BindGroup fs env) h S f i = fits_known env (hides fs h) S f i.rest

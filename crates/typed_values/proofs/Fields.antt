@@ -64,7 +64,7 @@ type_inserted x t (MoreField j u fs) n =
     go again false e d =
         ap (field_type x) (insert_before x j t u fs e) ∙ ap (λ b. if b then Some t else field_type x (MoreField j u fs)) (name_itself x)
 
-type_other : (x k : Name) (t : Ground) (fs : Fields Rigid) → bytes_eq x k ≡ false → field_type x (rows.insert_field k t fs) ≡ field_type x fs
+pub type_other : (x k : Name) (t : Ground) (fs : Fields Rigid) → bytes_eq x k ≡ false → field_type x (rows.insert_field k t fs) ≡ field_type x fs
 type_other x k t NoField d = ap (λ b. if b then Some t else None) d
 type_other x k t (MoreField j u fs) d = go (type_other x k t fs d) (name_lt j k) refl
   where
@@ -188,7 +188,7 @@ module _ (w : World) where
 
   -- ---- records that are made
 
-  inserted : (k : Name) (v : Value) (t : Ground) (fs : FieldValues) (ts : Fields Rigid) → HaveFields w fs ts → Has w v t → HaveFields w (insert_field k v fs) (rows.insert_field k t ts)
+  pub inserted : (k : Name) (v : Value) (t : Ground) (fs : FieldValues) (ts : Fields Rigid) → HaveFields w fs ts → Has w v t → HaveFields w (insert_field k v fs) (rows.insert_field k t ts)
   inserted k v t NoFieldV NoField h has = (refl, has, tt)
   inserted k v t NoFieldV (MoreField j u ts) h has = absurd h
   inserted k v t (MoreFieldV i x fs) NoField h has = absurd h

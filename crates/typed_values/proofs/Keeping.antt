@@ -1,13 +1,12 @@
--- What constants stand for keeps classes and lacking fields, and brings in no constants.
-use Rattle.std.proofs.Common.{◌≡◌, suc, List, [], ◌∷◌, ◌++◌, Bool, true, false, inl, inr, refl, sym, ap, ◌∙◌}
+-- What constants stand for keeps classes and lacking fields.
+use Rattle.std.proofs.Common.{◌≡◌, suc, List, [], ◌∷◌, Bool, true, false, refl, sym, ap, ◌∙◌}
 use Rattle.std.specs.Prelude.{◌||◌, not, ◌&&◌}
-use Rattle.std.specs.List.{AllByRecursion}
 use Rattle.std.specs.Str.{bytes_eq}
 use Rattle.std.proofs.lemmas.Slice.Eq.{bytes_eq-Decides}
 use Rattle.elm_type.specs.Types.{Name, End, Closed, Over, ElmTypes, Fields, Made, Record, NoType, MoreType, NoField, MoreField}
-use Rattle.elm_type.specs.Types.{end_variables, variables, variables_all, variables_fields, count, Rigid, Kind}
+use Rattle.elm_type.specs.Types.{count, Rigid, Kind}
 use Rattle.elm_type.specs.Classes.{Ground, meets, all_meet, demand_met, asks, is_below, is_any}
-use Rattle.elm_type.specs.Rows.{name_lt, has_field, insert_field, insert_all, extend, at_end, substitute, substitute_all}
+use Rattle.elm_type.specs.Rows.{has_field, insert_all, extend, at_end, substitute, substitute_all}
 use Rattle.elm_type.specs.Rows.{substitute_fields}
 use Rattle.elm_type.specs.declared.class.Class.{Class}
 use Rattle.elm_type.specs.declared.class.Class.TheVariants.{Any, Number, Comparable, Appendable, CompAppend}
@@ -15,8 +14,8 @@ use Rattle.elm_type.specs.declared.demands.Demand.{Demand}
 use Rattle.elm_type.specs.declared.demands.Demand.TheVariants.{Never, Always, OfParts}
 use Rattle.elm_type.proofs.Meeting.{meets_both}
 use Rattle.ground_types.specs.Ground.{contains, end_lacks, lacks, lacks_all, fits}
-use Rattle.typed_values.specs.Frames.{Frame, IsOneKind, Stands}
-use Rattle.typed_values.proofs.Rows.{insert_after, insert_before, extend_none, has_all, has_substituted}
+use Rattle.typed_values.specs.Frames.{Frame, Stands}
+use Rattle.typed_values.proofs.Rows.{extend_none, has_all, has_substituted}
 
 no : {X : Type 0} → false ≡ true → X
 no e = absurd (let w : false ≡ true = e in cc)
@@ -101,7 +100,7 @@ module _ (θ : Rigid → Ground) (class_of : (r : Rigid) → meets r.class (θ r
         and_both (meets c (substitute θ t)) (all_meet c (substitute_all θ ts)) (meets_kept t c (and_left (meets c t) (all_meet c ts) e))
         (all_kept ts c (and_right (meets c t) (all_meet c ts) e))
 
-module _ (θ : Rigid → Ground) (rests : (r : Rigid) → is_any r.class ≡ true → lacks_all r.lacks (θ r) ≡ true) where
+module _ (θ : Rigid → Ground) (rests : (r : Rigid) → lacks_all r.lacks (θ r) ≡ true) where
   not_yes : (b : Bool) → not b ≡ true → b ≡ false
   not_yes true e = no e
   not_yes false e = refl
@@ -124,82 +123,26 @@ module _ (θ : Rigid → Ground) (rests : (r : Rigid) → is_any r.class ≡ tru
       (ap not (none_had x fs gs n (not_yes (has_field x gs) (and_left (not (has_field x gs)) (end_lacks x end) e))))
       (and_right (not (has_field x gs)) (end_lacks x end) e)
 
-  -- a constant that lacks a field has no class
-  lacks_of : (x : Name) (r : Rigid) → IsOneKind r → contains x r.lacks ≡ true → lacks_all r.lacks (θ r) ≡ true
-  lacks_of x r (inl any) e = rests r any
-  lacks_of x r (inr none) e = no (sym (ap (contains x) none) ∙ e)
-
-  pub lacks_kept : (x : Name) (g : Ground) → AllByRecursion IsOneKind (variables g) → lacks x g ≡ true → lacks x (substitute θ g) ≡ true
-  lacks_kept x (Made h ts) one e = e
-  lacks_kept x (Record fs end) one e =
+  pub lacks_kept : (x : Name) (g : Ground) → lacks x g ≡ true → lacks x (substitute θ g) ≡ true
+  lacks_kept x (Made h ts) e = e
+  lacks_kept x (Record fs end) e =
       lacks_more x (substitute_fields θ fs) (at_end θ end)
       (has_substituted θ x fs ∙ not_yes (has_field x fs) (and_left (not (has_field x fs)) (end_lacks x end) e))
-      (end_kept end (and_right (not (has_field x fs)) (end_lacks x end) e) one)
+      (end_kept end (and_right (not (has_field x fs)) (end_lacks x end) e))
     where
-      end_kept : (end : End Rigid) → end_lacks x end ≡ true → AllByRecursion IsOneKind (end_variables end ++ variables_fields fs) → lacks x (at_end θ end) ≡ true
-      end_kept Closed e one = refl
-      end_kept (Over r) e one = lacks_in x r.lacks (θ r) e (lacks_of x r one.0 e)
+      end_kept : (end : End Rigid) → end_lacks x end ≡ true → lacks x (at_end θ end) ≡ true
+      end_kept Closed e = refl
+      end_kept (Over r) e = lacks_in x r.lacks (θ r) e (rests r)
 
-  pub all_lacks_kept : (xs : List Name) (g : Ground) → AllByRecursion IsOneKind (variables g) → lacks_all xs g ≡ true → lacks_all xs (substitute θ g) ≡ true
-  all_lacks_kept [] g one e = refl
-  all_lacks_kept (x ∷ xs) g one e =
-      and_both (lacks x (substitute θ g)) (lacks_all xs (substitute θ g)) (lacks_kept x g one (and_left (lacks x g) (lacks_all xs g) e))
-      (all_lacks_kept xs g one (and_right (lacks x g) (lacks_all xs g) e))
+  pub all_lacks_kept : (xs : List Name) (g : Ground) → lacks_all xs g ≡ true → lacks_all xs (substitute θ g) ≡ true
+  all_lacks_kept [] g e = refl
+  all_lacks_kept (x ∷ xs) g e =
+      and_both (lacks x (substitute θ g)) (lacks_all xs (substitute θ g)) (lacks_kept x g (and_left (lacks x g) (lacks_all xs g) e))
+      (all_lacks_kept xs g (and_right (lacks x g) (lacks_all xs g) e))
 
 -- kinds are kept
-pub fits_kept : (f : Frame) → Stands f → (k : Kind) (g : Ground) → AllByRecursion IsOneKind (variables g) → fits k g ≡ true → fits k (substitute f.stands g) ≡ true
-fits_kept f bare k g one e =
+pub fits_kept : (f : Frame) → Stands f → (k : Kind) (g : Ground) → fits k g ≡ true → fits k (substitute f.stands g) ≡ true
+fits_kept f stands k g e =
     and_both (meets k.class (substitute f.stands g)) (lacks_all k.lacks (substitute f.stands g))
-    (meets_kept f.stands bare.classes g k.class (and_left (meets k.class g) (lacks_all k.lacks g) e))
-    (all_lacks_kept f.stands bare.rests k.lacks g one (and_right (meets k.class g) (lacks_all k.lacks g) e))
-
--- ---- without constants
-
-none_both : {X : Type 0} (xs ys : List X) → xs ≡ [] → ys ≡ [] → xs ++ ys ≡ []
-none_both xs ys e f = ap (λ zs. zs ++ ys) e ∙ f
-
-pub none_left : {X : Type 0} (xs ys : List X) → xs ++ ys ≡ [] → xs ≡ []
-none_left [] ys e = refl
-none_left (x ∷ xs) ys e = absurd (cc)
-
-pub none_right : {X : Type 0} (xs ys : List X) → xs ++ ys ≡ [] → ys ≡ []
-none_right [] ys e = e
-none_right (x ∷ xs) ys e = absurd (cc)
-
-bare_inserted : (k : Name) (t : Ground) (fs : Fields Rigid) → variables t ≡ [] → variables_fields fs ≡ [] → variables_fields (insert_field k t fs) ≡ []
-bare_inserted k t NoField a b = none_both (variables t) [] a refl
-bare_inserted k t (MoreField m v fs) a b = go (bare_inserted k t fs a (none_right (variables v) (variables_fields fs) b)) (name_lt m k) refl
-  where
-    go : variables_fields (insert_field k t fs) ≡ [] → (c : Bool) → name_lt m k ≡ c → variables_fields (insert_field k t (MoreField m v fs)) ≡ []
-    go again true e =
-        ap variables_fields (insert_after k m t v fs e) ∙ none_both (variables v) (variables_fields (insert_field k t fs)) (none_left (variables v) (variables_fields fs) b) again
-    go again false e = ap variables_fields (insert_before k m t v fs e) ∙ none_both (variables t) (variables_fields (MoreField m v fs)) a b
-
-bare_all : (fs gs : Fields Rigid) → variables_fields fs ≡ [] → variables_fields gs ≡ [] → variables_fields (insert_all fs gs) ≡ []
-bare_all NoField gs a b = b
-bare_all (MoreField k t fs) gs a b =
-    bare_inserted k t (insert_all fs gs) (none_left (variables t) (variables_fields fs) a) (bare_all fs gs (none_right (variables t) (variables_fields fs) a) b)
-
-bare_extend : (fs : Fields Rigid) (g : Ground) → variables_fields fs ≡ [] → variables g ≡ [] → variables (extend fs g) ≡ []
-bare_extend fs (Made h ts) a b = b
-bare_extend fs (Record gs end) a b =
-    none_both (end_variables end) (variables_fields (insert_all fs gs)) (none_left (end_variables end) (variables_fields gs) b)
-    (bare_all fs gs a (none_right (end_variables end) (variables_fields gs) b))
-
-module _ (θ : Rigid → Ground) (bare : (r : Rigid) → variables (θ r) ≡ []) where
-  bare_end : (end : End Rigid) → variables (at_end θ end) ≡ []
-  bare_end Closed = refl
-  bare_end (Over r) = bare r
-
-  mutual
-    pub bare_kept : (g : Ground) → variables (substitute θ g) ≡ []
-    bare_kept (Made h ts) = bare_all_kept ts
-    bare_kept (Record fs end) = bare_extend (substitute_fields θ fs) (at_end θ end) (bare_fields_kept fs) (bare_end end)
-
-    bare_all_kept : (ts : ElmTypes Rigid) → variables_all (substitute_all θ ts) ≡ []
-    bare_all_kept NoType = refl
-    bare_all_kept (MoreType t ts) = none_both (variables (substitute θ t)) (variables_all (substitute_all θ ts)) (bare_kept t) (bare_all_kept ts)
-
-    bare_fields_kept : (fs : Fields Rigid) → variables_fields (substitute_fields θ fs) ≡ []
-    bare_fields_kept NoField = refl
-    bare_fields_kept (MoreField k t fs) = none_both (variables (substitute θ t)) (variables_fields (substitute_fields θ fs)) (bare_kept t) (bare_fields_kept fs)
+    (meets_kept f.stands stands.classes g k.class (and_left (meets k.class g) (lacks_all k.lacks g) e))
+    (all_lacks_kept f.stands stands.rests k.lacks g (and_right (meets k.class g) (lacks_all k.lacks g) e))

@@ -15,7 +15,11 @@ pub mod Forms
 pub mod Fields
 pub mod Unions
 pub mod Makers
+-- what goes out at ports
+pub mod Sent
 pub mod Comparing
+pub mod Truths
+pub mod Written
 pub mod Calls
 pub mod Operations
 -- a world that holds together

@@ -1,6 +1,6 @@
 -- Values of one type that constructors make: which tags they have, what patterns find of them, and what makes them.
 use Rattle.std.proofs.Common.{◌≡◌, ℕ, zero, suc, ◌+◌, pos, List, [], ◌∷◌, map, length, Bool, true, false, ◌⊎◌, inl, inr, refl, sym, ap, ◌∙◌, subst, arith, eq-eqb, negsuc}
-use Rattle.std.specs.Prelude.{◌||◌, ◌==◌, codes}
+use Rattle.std.specs.Prelude.{◌||◌, ◌&&◌, ◌==◌, codes}
 use Rattle.runs.specs.Ends.{Val}
 use Rattle.elm_canon.specs.Names.{Name}
 use Rattle.elm_canon.specs.declared.unions.Tag.{Tag}
@@ -21,12 +21,12 @@ use Rattle.type_items.specs.Items.{Place, Wanted, child, children, at}
 use Rattle.type_items.specs.Scopes.{Known}
 use Rattle.type_items.specs.Patterns.{shape, list_parts}
 use Rattle.typed_values.specs.Frames.{Frame, of}
-use Rattle.typed_values.specs.World.{World, Constructor, Among, is_negative, Declares, made_type, IsNil, IsCons, MadeBy, IsSound}
+use Rattle.typed_values.specs.World.{KnownIn, World, Constructor, Among, is_negative, Declares, Makes, made_type, IsNil, IsCons, MadeBy, IsSound}
 use Rattle.typed_values.specs.Typed.{Has, HasEach}
 use Rattle.typed_values.specs.Steps.{Constructed}
 use Rattle.typed_values.proofs.Names.{not_both}
 use Rattle.typed_values.proofs.Keeping.{and_left, and_both}
-use Rattle.typed_values.proofs.Forms.{Tags, form, each_count, tag_value, union_form}
+use Rattle.typed_values.proofs.Forms.{Tags, form, each_count, tag_value, union_form, is_port_ground, plain_made}
 use Rattle.typed_values.proofs.Unions.{map_length, choice, shape_of_declared, fields_same, UnionAt, of_union, no_list}
 
 -- ---- tags
@@ -235,7 +235,7 @@ module _ (w : World) (sound : IsSound w) where
       → AConstructed (TupleUnion n) alt k p f (TagV tag vs)
   tuple_constructed n alt k p f tag vs e has =
       let h : Has w (TagV tag vs) (tuple (map (of f) (children p n))) = subst (λ g. Has w (TagV tag vs) g) (of_tuple f (children p n)) has in
-      let m = tuple_made tag vs h.0 (map (of f) (children p n)) h.1 in
+      let m = tuple_made tag vs h.0 (map (of f) (children p n)) (plain_made w sound tag vs h.0 (tuple (map (of f) (children p n))) refl h.1) in
       let count : count_of vs ≡ n = each_count w vs h.0 h.2 ∙ (ap length m.0 ∙ (map_length (of f) (children p n) ∙ children_length p n)) in record {
         tag = tag;
         fields = vs;
@@ -251,7 +251,7 @@ module _ (w : World) (sound : IsSound w) where
       let parts = map (of f) (list_parts alt.arity (at (child p 0))) in
       let is_nil = is_of tag vs nil_alternative in
       let is_cons = is_of tag vs cons_alternative in
-      elim (list_made tag vs h.0 t h.1) [
+      elim (list_made tag vs h.0 t (plain_made w sound tag vs h.0 (list_type t) refl h.1)) [
         | inl m ↦ record {
           tag = tag;
           fields = vs;
@@ -276,12 +276,13 @@ module _ (w : World) (sound : IsSound w) where
         }
       ]
 
-  union_constructed : (m x : Name) (cs : List Alternative) (alt : Alternative) (k : Known) (p : Place) (f : Frame) (tag : Tag) (vs : Values) → k ≡ w.known → Declares w (Declared m x cs) alt
+  union_constructed : (m x : Name) (cs : List Alternative) (alt : Alternative) (k : Known) (p : Place) (f : Frame) (tag : Tag) (vs : Values) → KnownIn w k → Declares w (Declared m x cs) alt
       → Has w (TagV tag vs) (of f (shape (Declared m x cs) alt k p).result) → AConstructed (Declared m x cs) alt k p f (TagV tag vs)
   union_constructed m x cs alt k p f tag vs known d h =
       let c = d.1 in
       let s = shape_of_declared w sound m x c alt k f p d.2 d.3 known in
-      let u = of_union w sound m x c (choice f p) tag vs h.0 (of f (shape (Declared m x cs) alt k p).result) d.2 (sym s.result) h.1 in
+      let g = of f (shape (Declared m x cs) alt k p).result in
+      let u = of_union w sound m x c (choice f p) tag vs h.0 g d.2 (sym s.result) (plain_made w sound tag vs h.0 g (ap is_port_ground s.result ∙ d.4) h.1) in
       let own = u.constructor_ in
       let count : count_of vs ≡ own.alternative.arity =
       each_count w vs h.0 h.2 ∙ (ap length (sym u.parts_are) ∙ (map_length (substitute u.choice) own.fields ∙ (sound.unions m x).counted own u.among)) in record {
@@ -299,7 +300,7 @@ module _ (w : World) (sound : IsSound w) where
       }
 
   -- a value of a constructor's type is one of the constructors of its union
-  pub constructed : (u : Union) (alt : Alternative) (k : Known) (p : Place) (f : Frame) (v : Value) → k ≡ w.known → Declares w u alt
+  pub constructed : (u : Union) (alt : Alternative) (k : Known) (p : Place) (f : Frame) (v : Value) → KnownIn w k → Declares w u alt
       → Has w v (of f (shape u alt k p).result) → AConstructed u alt k p f v
   constructed u alt k p f v known d has =
       let r = tag_value w sound v (of f (shape u alt k p).result) (result_form u d) has in
@@ -333,7 +334,7 @@ module _ (w : World) (sound : IsSound w) where
     | inr none ↦ inr (n ∙ (sym ((sound.unions m x).counted c among) ∙ ap length none))
   ])
 
-  pub built : (u : Union) (alt : Alternative) (vs : Values) → Declares w u alt → count_of vs ≡ alt.arity → build alt.tag vs ≡ Val (TagV alt.tag vs)
+  pub built : (u : Union) (alt : Alternative) (vs : Values) → Makes w u alt → count_of vs ≡ alt.arity → build alt.tag vs ≡ Val (TagV alt.tag vs)
   built (TupleUnion n) alt vs d e = build_tag alt.tag vs (subst (λ a. (same_kind a.tag (Number (pos 0)) ≡ true) ⊎ (count_of vs ≡ 0)) (sym d) (go n (e ∙ ap (λ a. a.arity) d)))
     where
       go : (n : ℕ) → count_of vs ≡ (tuple_alternative n).arity → (same_kind (tuple_tag n) (Number (pos 0)) ≡ true) ⊎ (count_of vs ≡ 0)
@@ -342,18 +343,24 @@ module _ (w : World) (sound : IsSound w) where
   built ListUnion alt vs (inl d) e = build_tag alt.tag vs (inl (ap (λ a. same_kind a.tag (Number (pos 0))) d))
   built ListUnion alt vs (inr d) e = build_tag alt.tag vs (inl (ap (λ a. same_kind a.tag (Number (pos 0))) d))
   built (Declared m x cs) alt vs d e =
-      subst (λ a. build a.tag vs ≡ Val (TagV a.tag vs)) d.3 (built_of m x d.1 vs d.2 (e ∙ sym (ap (λ a. a.arity) d.3)))
+      subst (λ a. build a.tag vs ≡ Val (TagV a.tag vs)) d.2 (built_of m x d.0 vs d.1 (e ∙ sym (ap (λ a. a.arity) d.2)))
 
-  pub shape_count : (u : Union) (alt : Alternative) (k : Known) (p : Place) (f : Frame) → k ≡ w.known → Declares w u alt → length (shape u alt k p).parts ≡ alt.arity
+  -- what may be taken apart may be built
+  pub makes_of : (u : Union) (alt : Alternative) → Declares w u alt → Makes w u alt
+  makes_of (TupleUnion n) alt d = d
+  makes_of ListUnion alt d = d
+  makes_of (Declared m x cs) alt d = (d.1, d.2, d.3, ap (λ b. b && same_tag alt.tag (Number (pos 0))) d.4)
+
+  pub shape_count : (u : Union) (alt : Alternative) (k : Known) (p : Place) (f : Frame) → KnownIn w k → Makes w u alt → length (shape u alt k p).parts ≡ alt.arity
   shape_count (TupleUnion n) alt k p f known d = children_length p n ∙ (sym (tuple_arity n) ∙ ap (λ a. a.arity) (sym d))
   shape_count ListUnion alt k p f known (inl d) = subst (λ a. length (list_parts a.arity (at (child p 0))) ≡ a.arity) (sym d) refl
   shape_count ListUnion alt k p f known (inr d) = subst (λ a. length (list_parts a.arity (at (child p 0))) ≡ a.arity) (sym d) refl
   shape_count (Declared m x cs) alt k p f known d =
-      let s = shape_of_declared w sound m x d.1 alt k f p d.2 d.3 known in
+      let s = shape_of_declared w sound m x d.0 alt k f p d.1 d.2 known in
       sym (map_length (of f) (shape (Declared m x cs) alt k p).parts)
-      ∙ (ap length s.parts ∙ (map_length (substitute (choice f p)) d.1.fields ∙ ((sound.unions m x).counted d.1 d.2 ∙ ap (λ a. a.arity) d.3)))
+      ∙ (ap length s.parts ∙ (map_length (substitute (choice f p)) d.0.fields ∙ ((sound.unions m x).counted d.0 d.1 ∙ ap (λ a. a.arity) d.2)))
 
-  pub made_shape : (u : Union) (alt : Alternative) (k : Known) (p : Place) (f : Frame) (vs : Values) → k ≡ w.known → Declares w u alt → count_of vs ≡ alt.arity
+  pub made_shape : (u : Union) (alt : Alternative) (k : Known) (p : Place) (f : Frame) (vs : Values) → KnownIn w k → Makes w u alt → count_of vs ≡ alt.arity
       → MadeBy w alt.tag vs (map (of f) (shape u alt k p).parts) (of f (shape u alt k p).result)
   made_shape (TupleUnion n) alt k p f vs known d e = inl (record {
     tag_is = ap (λ a. a.tag) d ∙ ap tuple_tag (sym (e ∙ (ap (λ a. a.arity) d ∙ tuple_arity n)));
@@ -364,13 +371,14 @@ module _ (w : World) (sound : IsSound w) where
   made_shape ListUnion alt k p f vs known (inr d) e =
       inr (inl (record { item = of f (at (child p 0)); is = refl; form = inr (ap (λ a. a.tag) d, ap (λ a. map (of f) (list_parts a.arity (at (child p 0)))) d) }))
   made_shape (Declared m x cs) alt k p f vs known d e =
-      let s = shape_of_declared w sound m x d.1 alt k f p d.2 d.3 known in
+      let s = shape_of_declared w sound m x d.0 alt k f p d.1 d.2 known in
       inr (inr (record {
         home = m;
         name = x;
-        constructor_ = d.1;
-        among = d.2;
-        tag_is = ap (λ a. a.tag) d.3;
+        constructor_ = d.0;
+        among = d.1;
+        tag_is = ap (λ a. a.tag) d.2;
+        own = d.3;
         choice = choice f p;
         parts_are = sym s.parts;
         is = sym s.result;

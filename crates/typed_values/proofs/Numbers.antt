@@ -1,9 +1,9 @@
--- Numbers without constants are Int alone; what constants stand for keeps classes and missing fields.
-use Rattle.std.proofs.Common.{◌≡◌, suc, [], ◌∷◌, Bool, true, false, refl, sym, ap, ◌∙◌, arith, eqb-true}
+-- Of the types that are made of a head, Int alone is one of numbers; what constants stand for keeps classes and missing fields.
+use Rattle.std.proofs.Common.{◌≡◌, suc, Bool, true, false, refl, sym, ap, ◌∙◌, arith, eqb-true}
 use Rattle.std.specs.Prelude.{◌&&◌, if◌then◌else◌, codes, nat_eq}
 use Rattle.std.specs.Str.{bytes_eq}
 use Rattle.std.proofs.lemmas.Slice.Eq.{bytes_eq-Decides}
-use Rattle.elm_type.specs.Types.{Name, ElmTypes, NoType, MoreType, Made, Record, NoField, MoreField, Closed, Over, count, variables, Rigid, int_type}
+use Rattle.elm_type.specs.Types.{Name, ElmTypes, NoType, MoreType, Made, count, Rigid, int_type}
 use Rattle.elm_type.specs.Classes.{Ground, meets, demand_met}
 use Rattle.elm_type.specs.Rows.{substitute}
 use Rattle.elm_type.specs.declared.class.Class.{Class}
@@ -43,11 +43,8 @@ number_head (head.Named m x) ts e =
 number_head head.Function ts e = not_both false e refl
 number_head head.Tuple ts e = not_both false e refl
 
-pub number_is_int : (g : Ground) → meets Number g ≡ true → variables g ≡ [] → int_type ≡ g
-number_is_int (Made h ts) m bare = number_head h ts m
-number_is_int (Record NoField Closed) m bare = not_both false m refl
-number_is_int (Record NoField (Over r)) m bare = absurd (let e : (r ∷ []) ≡ [] = bare in cc)
-number_is_int (Record (MoreField k t fs) end) m bare = not_both false m refl
+pub number_is_int : (h : Head) (ts : ElmTypes Rigid) → meets Number (Made h ts) ≡ true → int_type ≡ Made h ts
+number_is_int h ts m = number_head h ts m
 
 module _ (a : Frame) (bare : Stands a) where
   pub standing_number : (g : Ground) → meets Number g ≡ true → meets Number (substitute a.stands g) ≡ true
@@ -56,4 +53,4 @@ module _ (a : Frame) (bare : Stands a) where
   pub standing_lacks : (x : Name) (p : Place) → lacks x (value a.values (at p)) ≡ true → lacks x (of a (at p)) ≡ true
   standing_lacks x p l =
       let same : value a.values (at p) ≡ a.values p = extend_none (a.values p) in
-      ap (λ g. lacks x (substitute a.stands g)) same ∙ lacks_kept a.stands bare.rests x (a.values p) (bare.one_kind p) (ap (lacks x) (sym same) ∙ l)
+      ap (λ g. lacks x (substitute a.stands g)) same ∙ lacks_kept a.stands bare.rests x (a.values p) (ap (lacks x) (sym same) ∙ l)

@@ -1,6 +1,7 @@
 -- Operations on parts, and patterns of records: they keep types.
-use Rattle.std.proofs.Common.{◌≡◌, ℕ, zero, suc, ◌+◌, pos, List, [], ◌∷◌, map, length, Bool, true, false, inl, inr, refl, sym, ap, ◌∙◌, subst, arith, replicate}
-use Rattle.std.specs.Prelude.{ℤ, not, if◌then◌else◌, codes, ◌+ℤ◌, ◌-ℤ◌, ◌*ℤ◌}
+use Rattle.std.proofs.Common.{◌≡◌, ℕ, zero, suc, ◌+◌, pos, List, [], ◌∷◌, map, length, Bool, true, false, inl, refl, sym, ap, ◌∙◌, subst, arith, replicate}
+use Rattle.std.proofs.lemmas.Slice.Eq.{bytes_eq-Decides}
+use Rattle.std.specs.Prelude.{ℤ, ◌||◌, not, if◌then◌else◌, ◌+ℤ◌, ◌-ℤ◌, ◌*ℤ◌}
 use Rattle.std.specs.declared.cmp.Ordering.{Ordering}
 use Rattle.std.specs.Ordering.{is_lt, is_gt, is_le, is_ge}
 use Rattle.std.specs.List.{zip, range_with_len, enumerate_from}
@@ -12,21 +13,19 @@ use Rattle.elm_canon.specs.Names.{Name}
 use Rattle.elm_canon.specs.declared.reference.Ref.{Ref}
 use Rattle.elm_canon.specs.declared.reference.Ref.TheVariants.{Local}
 use Rattle.elm_canon.specs.declared.unions.Alternative.{Alternative}
-use Rattle.elm_canon.specs.declared.unions.Tag.TheVariants.{Number, Truth}
 use Rattle.elm_canon.specs.declared.tree.Operator.{Operator}
 use Rattle.elm_canon.specs.declared.tree.Operator.TheVariants as operator
 use Rattle.elm_canon.specs.Unions.{Union}
 use Rattle.elm_canon.specs.Tree.{FieldsOf, Op, TupleOf, ListOf, Build, RecordOf, Access, Update, Negate, Binary}
 use Rattle.elm_proper.specs.Spelled.{is_word, are_fields}
 use Rattle.elm_meaning.specs.Values.{Value, IntV, RecordV, Values, NoValue, MoreValue, FieldValues, Env, Bind, count_of, truth, list_of, nil, field_of}
-use Rattle.elm_meaning.specs.Seen.{same_kind}
 use Rattle.elm_meaning.specs.Equal.{equals}
 use Rattle.elm_meaning.specs.Order.{compares}
 use Rattle.elm_meaning.specs.Operate.{append, on_ints, by_order, operate, build, perform}
 use Rattle.elm_meaning.specs.Match.{matches, bind_fields}
-use Rattle.elm_type.specs.Types.{ElmType, Fields, Record, Made, NoField, Closed, Over, Rigid, Leaf, Kind, variables, function, functions, tuple, named, list_type, int_type, bool_type}
+use Rattle.elm_type.specs.Types.{ElmType, Fields, Record, Made, NoField, Closed, Over, Rigid, Kind, function, functions, tuple, list_type, int_type, bool_type}
 use Rattle.elm_type.specs.Classes.{Ground, meets}
-use Rattle.elm_type.specs.Rows.{extend, insert_field, insert_all, sorted, closed, substitute, substitute_fields}
+use Rattle.elm_type.specs.Rows.{extend, has_field, insert_field, insert_all, sorted, closed, substitute, substitute_fields}
 use Rattle.elm_type.specs.declared.class.Class.{Class}
 use Rattle.elm_type.specs.declared.class.Class.TheVariants.{Any, Number as Numbers, Comparable, Appendable}
 use Rattle.ground_types.specs.Ground.{lacks_all, leaf_value, value, fits}
@@ -36,22 +35,22 @@ use Rattle.type_items.specs.Patterns.{shape, shape_items, fields_at, open_record
 use Rattle.type_items.specs.Operations.{plan, operator_class, operator_type}
 use Rattle.type_items.specs.Solutions.{Solves}
 use Rattle.typed_values.specs.Frames.{Frame, of, Stands}
-use Rattle.typed_values.specs.World.{World, Constructor, Among, variables_of, made_type, Declares, MadeBy, IsSound}
+use Rattle.typed_values.specs.World.{KnownIn, World, Makes, MadeBy, IsSound}
 use Rattle.typed_values.specs.Simple.{IsSome, AreFields, IsOperation}
 use Rattle.typed_values.specs.Typed.{EndsWell, Has, HasEach, HaveFields, Fits}
 use Rattle.typed_values.specs.Steps.{EndsAs, IfMatched, HaveParts, SolvesPlan}
 use Rattle.typed_values.proofs.Names.{not_both, solves_left, solves_right}
-use Rattle.typed_values.proofs.Keeping.{and_right, and_both, meets_any, fits_kept, bare_kept, meets_kept}
-use Rattle.typed_values.proofs.Rows.{substitute_insert, substitute_extend, insert_all_insert}
+use Rattle.typed_values.proofs.Keeping.{and_right, and_both, meets_any, fits_kept, meets_kept}
+use Rattle.typed_values.proofs.Rows.{substitute_insert, substitute_extend, insert_all_insert, has_inserted}
 use Rattle.typed_values.proofs.Envs.{of_functions, fits_bind}
 use Rattle.typed_values.proofs.Uses.{class_holds, lacks_hold, value_at}
 use Rattle.typed_values.proofs.Patterns.{up}
-use Rattle.typed_values.proofs.Forms.{form, each_count, int_value, record_value}
-use Rattle.typed_values.proofs.Numbers.{number_is_int}
+use Rattle.typed_values.proofs.Forms.{each_count, number_form, with_field, int_value, record_value}
 use Rattle.typed_values.proofs.Fields.{onto, TypedAt, onto_typed, field_found, replaced, made}
 use Rattle.typed_values.proofs.Unions.{map_length, functions_same}
 use Rattle.typed_values.proofs.Makers.{of_tuple, children_length, built, shape_count, made_shape}
 use Rattle.typed_values.proofs.Comparing.{Fine, Ordered, equal_fine, compare_fine, AllHave, nil_has, cons_has, before_has, append_well}
+use Rattle.typed_values.proofs.Truths.{truths}
 use Rattle.typed_values.proofs.Calls.{fine_well}
 
 -- ---- the types of records
@@ -97,78 +96,55 @@ pub record IsOpen (f : Frame) (xs : List Name) (q : Place) (row : Place) : Type 
   pub is : of f (open_record xs q (at row)) ≡ Record (onto xs (map (of f) (children q (length xs))) others) Closed
   pub typed : TypedAt xs (map (of f) (children q (length xs))) (onto xs (map (of f) (children q (length xs))) others)
 
-record_without : (xs : List Name) (g : Ground) → IsSome xs → lacks_all xs g ≡ true → variables g ≡ [] → (others : Fields Rigid) × (g ≡ Record others Closed)
-record_without [] g some l bare = absurd some
-record_without (x ∷ xs) (Made h ts) some l bare = not_both false l refl
-record_without (x ∷ xs) (Record fs Closed) some l bare = (fs, refl)
-record_without (x ∷ xs) (Record fs (Over r)) some l bare = absurd (cc)
+-- of an open record over a constant there is no value
+record_without : (w : World) → IsSound w → (xs : List Name) (ts : List Ground) (g : Ground) (v : Value) → IsSome xs → length ts ≡ length xs → lacks_all xs g ≡ true
+    → Has w v (extend (sorted (zip xs ts)) g) → (others : Fields Rigid) × (g ≡ Record others Closed)
+record_without w sound [] ts g v some n l has = absurd some
+record_without w sound (x ∷ xs) [] g v some n l has = absurd (let z : 0 ≡ suc (length xs) = n in omega arith)
+record_without w sound (x ∷ xs) (t ∷ ts) (Made h us) v some n l has = not_both false l refl
+record_without w sound (x ∷ xs) (t ∷ ts) (Record fs Closed) v some n l has = (fs, refl)
+record_without w sound (x ∷ xs) (t ∷ ts) (Record fs (Over r)) v some n l has =
+    let whole = insert_all (sorted (zip (x ∷ xs) (t ∷ ts))) fs in
+    let own : has_field x whole ≡ true =
+    ap (has_field x) (insert_all_insert x t (sorted (zip xs ts)) fs) ∙ (has_inserted x x t (insert_all (sorted (zip xs ts)) fs) ∙ ap (λ b. b || has_field x (insert_all (sorted (zip xs ts)) fs)) ((bytes_eq-Decides x x).1 refl)) in
+    let o = record_value w sound v (Record whole (Over r)) (with_field x (Over r) whole own) has in
+    let k : Has w (RecordV o.0) (Record whole (Over r)) = subst (λ z. Has w z (Record whole (Over r))) o.1 has in
+    absurd (let e : Record k.0 Closed ≡ Record whole (Over r) = k.1 in cc)
 
-open_type : (f : Frame) (bare : Stands f) (here : Pos) (xs : List Name) (q row : Place) → AreFields xs → Solves f.values (lack_items here (at row) xs) → IsOpen f xs q row
-open_type f bare here xs q row proper sol =
+-- an open record that some value has, with what it lacks
+open_type : (w : World) → IsSound w → (f : Frame) (stands : Stands f) (here : Pos) (xs : List Name) (q row : Place) (v : Value) → AreFields xs → Solves f.values (lack_items here (at row) xs)
+    → Has w v (of f (open_record xs q (at row))) → IsOpen f xs q row
+open_type w sound f stands here xs q row v proper sol has =
     let k : Kind = record { class = Any; lacks = xs } in
     let own = f.values row in
     let rest = of f (at row) in
     let ts = map (of f) (children q (length xs)) in
     let up_row : substitute f.stands own ≡ rest = ap (substitute f.stands) (sym (value_at f row)) in
-    let fit = fits_kept f bare k own (bare.one_kind row) (and_both (meets Any own) (lacks_all xs own) (meets_any own) (lacks_hold f here row xs sol)) in
+    let fit = fits_kept f stands k own (and_both (meets Any own) (lacks_all xs own) (meets_any own) (lacks_hold f here row xs sol)) in
     let without : lacks_all xs rest ≡ true = ap (lacks_all xs) (sym up_row) ∙ and_right (meets Any (substitute f.stands own)) (lacks_all xs (substitute f.stands own)) fit in
-    let r = record_without xs rest proper.1 without (bare_kept f.stands bare.bare (value f.values (at row))) in
+    let n : length ts ≡ length xs = map_length (of f) (children q (length xs)) ∙ children_length q (length xs) in
     let is_open : of f (open_record xs q (at row)) ≡ extend (sorted (zip xs ts)) rest =
     ap (substitute f.stands) (substitute_extend (leaf_value f.values) (sorted (fields_at xs q)) (at row))
     ∙ (substitute_extend f.stands (substitute_fields (leaf_value f.values) (sorted (fields_at xs q))) (value f.values (at row))
-    ∙ ap (λ fs. extend fs rest) (of_sorted f (fields_at xs q) ∙ ap sorted (fields_zip f q 0 xs))) in record {
+    ∙ ap (λ fs. extend fs rest) (of_sorted f (fields_at xs q) ∙ ap sorted (fields_zip f q 0 xs))) in
+    let r = record_without w sound xs ts rest v proper.1 n without (subst (λ g. Has w v g) is_open has) in record {
       others = r.0;
       is = is_open ∙ ap (extend (sorted (zip xs ts))) r.1;
-      typed = onto_typed xs ts r.0 proper.0 (map_length (of f) (children q (length xs)) ∙ children_length q (length xs)) (ap (lacks_all xs) (sym r.1) ∙ without);
+      typed = onto_typed xs ts r.0 proper.0 n (ap (lacks_all xs) (sym r.1) ∙ without);
     }
 
 -- ---- classes in a frame
 
-class_in : (f : Frame) (bare : Stands f) (c : Class) (g : Ground) → meets c g ≡ true → meets c (substitute f.stands g) ≡ true
-class_in f bare c g m = meets_kept f.stands bare.classes g c m
+class_in : (f : Frame) (stands : Stands f) (c : Class) (g : Ground) → meets c g ≡ true → meets c (substitute f.stands g) ≡ true
+class_in f stands c g m = meets_kept f.stands stands.classes g c m
 
-class_at : (f : Frame) (bare : Stands f) (here : Pos) (p : Place) (c : Class) → Solves f.values (class_items here (at p) c) → meets c (of f (at p)) ≡ true
-class_at f bare here p c sol =
-    ap (λ g. meets c (substitute f.stands g)) (value_at f p) ∙ class_in f bare c (f.values p) (class_holds f here p c sol)
+class_at : (f : Frame) (stands : Stands f) (here : Pos) (p : Place) (c : Class) → Solves f.values (class_items here (at p) c) → meets c (of f (at p)) ≡ true
+class_at f stands here p c sol =
+    ap (λ g. meets c (substitute f.stands g)) (value_at f p) ∙ class_in f stands c (f.values p) (class_holds f here p c sol)
 
 -- ---- operations
 
 module _ (w : World) (sound : IsSound w) where
-  pub truth_type : (c : Constructor) → Among c (w.unions (codes "Basics") (codes "Bool")) → (L : Leaf ℕ → Ground) → substitute L (made_type (codes "Basics") (codes "Bool") c) ≡ bool_type
-  truth_type c among L = ap (λ ns. substitute L (named (codes "Basics") (codes "Bool") (variables_of ns))) (sound.no_others c among).2
-
-  pub no_fields : (c : Constructor) → Among c (w.unions (codes "Basics") (codes "Bool")) → (b : Bool) × (c.alternative.tag ≡ Truth b) × (c.fields ≡ [])
-  no_fields c among =
-      let t = sound.no_others c among in (
-        t.0,
-        t.1,
-        elim ((sound.unions (codes "Basics") (codes "Bool")).bare c among) [
-          | inl k ↦ not_both (same_kind c.alternative.tag (Number (pos 0))) k (ap (λ z. same_kind z (Number (pos 0))) t.1)
-          | inr none ↦ none
-        ],
-      )
-
-  pub truths : (b : Bool) → Has w (truth b) bool_type
-  truths b =
-      let t = sound.truths b in
-      let n = no_fields t.0 t.1.0 in (
-        [],
-        inr (inr (record {
-          home = codes "Basics";
-          name = codes "Bool";
-          constructor_ = t.0;
-          among = t.1.0;
-          tag_is = t.1.1;
-          choice = λ _. int_type;
-          parts_are = ap (map (substitute (λ _. int_type))) n.2;
-          is = truth_type t.0 t.1.0 (λ _. int_type);
-        })),
-        tt,
-      )
-
-  int_has : (o : End ℤ) → Fine o → EndsAs w int_type (then_do o (λ n. Val (IntV n)))
-  int_has o h = fine_well (λ v. Has w v int_type) o (λ n. IntV n) h (λ n. refl)
-
   exact_fine : (n : ℤ) → Fine (exact n)
   exact_fine n = go (is_exact n)
     where
@@ -176,25 +152,20 @@ module _ (w : World) (sound : IsSound w) where
       go true = tt
       go false = tt
 
-  on_ints_well : (v u : Value) (g : Ground) (go : ℤ → ℤ → End ℤ) → int_type ≡ g → ((a b : ℤ) → Fine (go a b)) → Has w v g → Has w u g → EndsAs w g (on_ints v u go)
+  on_ints_well : (v u : Value) (g : Ground) (go : ℤ → ℤ → End ℤ) → meets Numbers g ≡ true → ((a b : ℤ) → Fine (go a b)) → Has w v g → Has w u g → EndsAs w g (on_ints v u go)
   on_ints_well v u g go is fine h k =
-      let a = int_value w sound v g (sym (ap form is)) h in
-      let b = int_value w sound u g (sym (ap form is)) k in
+      let a = int_value w sound v g (number_form g is) h in
+      let b = int_value w sound u g (number_form g is) k in
       subst (λ z. EndsAs w g (on_ints z u go)) (sym a.1) (subst (λ z. EndsAs w g (on_ints (IntV a.0) z go)) (sym b.1)
       (fine_well (λ v. Has w v g) (go a.0 b.0) (λ n. IntV n) (fine a.0 b.0) (λ n. is)))
 
-  -- the first type is that of a number
-  number_type : (f : Frame) → Stands f → (here : Pos) (p : Place) → Solves f.values (class_items here (at p) Numbers) → int_type ≡ of f (at p)
-  number_type f bare here p sol =
-      number_is_int (of f (at p)) (class_at f bare here p Numbers sol) (bare_kept f.stands bare.bare (value f.values (at p)))
-
   order_well : (v u : Value) (A T : Ground) (holds : Ordering → Bool) → bool_type ≡ T → Ordered A → Has w v A → Has w u A → EndsAs w T (by_order v u holds)
   order_well v u A T holds is o h k =
-      fine_well (λ z. Has w z T) (compares v u) (λ order. truth (holds order)) (compare_fine w sound v u A o h k) (λ order. subst (λ g. Has w (truth (holds order)) g) is (truths (holds order)))
+      fine_well (λ z. Has w z T) (compares v u) (λ order. truth (holds order)) (compare_fine w sound v u A o h k) (λ order. subst (λ g. Has w (truth (holds order)) g) is (truths w sound (holds order)))
 
   equal_well : (v u : Value) (A T : Ground) (holds : Bool → Bool) → bool_type ≡ T → Has w v A → Has w u A → EndsAs w T (then_do (equals v u) (λ same. Val (truth (holds same))))
   equal_well v u A T holds is h k =
-      fine_well (λ z. Has w z T) (equals v u) (λ same. truth (holds same)) (equal_fine w sound v u A h k) (λ same. subst (λ g. Has w (truth (holds same)) g) is (truths (holds same)))
+      fine_well (λ z. Has w z T) (equals v u) (λ same. truth (holds same)) (equal_fine w sound v u A h k) (λ same. subst (λ g. Has w (truth (holds same)) g) is (truths w sound (holds same)))
 
   -- the types that an operator's type wants
   pub record Wants (A B C T U R : Ground) : Type 0 where
@@ -216,7 +187,7 @@ module _ (w : World) (sound : IsSound w) where
   in_order holds f bare here p t u r v x class same h k =
       let A = of f (at p) in
       let e = wants A A bool_type (of f t) (of f u) (of f r) same in
-      order_well v x A (of f r) holds e.result (class_at f bare here p Comparable class, bare_kept f.stands bare.bare (value f.values (at p)))
+      order_well v x A (of f r) holds e.result (class_at f bare here p Comparable class)
       (subst (λ g. Has w v g) (sym e.left) h) (subst (λ g. Has w x g) (sym e.right) k)
 
   operate_well : (op : Operator) (f : Frame) → Stands f → (here : Pos) (p : Place) (t u r : Wanted) (v x : Value)
@@ -226,17 +197,17 @@ module _ (w : World) (sound : IsSound w) where
       let A = of f (at p) in
       let e = wants A A A (of f t) (of f u) (of f r) same in
       subst (λ g. EndsAs w g (on_ints v x add)) e.result
-      (on_ints_well v x A add (number_type f bare here p class) (λ a b. exact_fine (a +ℤ b)) (subst (λ g. Has w v g) (sym e.left) h) (subst (λ g. Has w x g) (sym e.right) k))
+      (on_ints_well v x A add (class_at f bare here p Numbers class) (λ a b. exact_fine (a +ℤ b)) (subst (λ g. Has w v g) (sym e.left) h) (subst (λ g. Has w x g) (sym e.right) k))
   operate_well operator.Subtract f bare here p t u r v x class same h k =
       let A = of f (at p) in
       let e = wants A A A (of f t) (of f u) (of f r) same in
       subst (λ g. EndsAs w g (on_ints v x subtract)) e.result
-      (on_ints_well v x A subtract (number_type f bare here p class) (λ a b. exact_fine (a -ℤ b)) (subst (λ g. Has w v g) (sym e.left) h) (subst (λ g. Has w x g) (sym e.right) k))
+      (on_ints_well v x A subtract (class_at f bare here p Numbers class) (λ a b. exact_fine (a -ℤ b)) (subst (λ g. Has w v g) (sym e.left) h) (subst (λ g. Has w x g) (sym e.right) k))
   operate_well operator.Multiply f bare here p t u r v x class same h k =
       let A = of f (at p) in
       let e = wants A A A (of f t) (of f u) (of f r) same in
       subst (λ g. EndsAs w g (on_ints v x multiply)) e.result
-      (on_ints_well v x A multiply (number_type f bare here p class) (λ a b. exact_fine (a *ℤ b)) (subst (λ g. Has w v g) (sym e.left) h) (subst (λ g. Has w x g) (sym e.right) k))
+      (on_ints_well v x A multiply (class_at f bare here p Numbers class) (λ a b. exact_fine (a *ℤ b)) (subst (λ g. Has w v g) (sym e.left) h) (subst (λ g. Has w x g) (sym e.right) k))
   operate_well operator.Divide f bare here p t u r v x class same h k =
       let e = wants int_type int_type int_type (of f t) (of f u) (of f r) same in
       subst (λ g. EndsAs w g (on_ints v x (λ a b. Val (quotient a b)))) e.result
@@ -276,9 +247,9 @@ module _ (w : World) (sound : IsSound w) where
   list_well f t r n vs same h = subst (Has w (list_of vs)) same (before_has w sound vs nil (of f t) (all_have f t n vs h) (nil_has w sound (of f t)))
 
   tuple_well : (f : Frame) (ts : List Wanted) (r : Wanted) (v : Value) (vs : Values) → of f (tuple ts) ≡ of f r → HasEach w (MoreValue v vs) (map (of f) ts) → EndsAs w (of f r) (perform TupleOf (MoreValue v vs))
-  tuple_well f ts r v vs same h = (map (of f) ts, inl (record { tag_is = refl; is = sym (of_tuple f ts) ∙ same }), h)
+  tuple_well f ts r v vs same h = (map (of f) ts, inl (inl (record { tag_is = refl; is = sym (of_tuple f ts) ∙ same })), h)
 
-  build_well : (here : Pos) (u : Union) (alt : Alternative) (n : ℕ) (known : Known) (p q : Place) (f : Frame) (r : Wanted) (vs : Values) → known ≡ w.known → Declares w u alt → n ≡ alt.arity
+  build_well : (here : Pos) (u : Union) (alt : Alternative) (n : ℕ) (known : Known) (p q : Place) (f : Frame) (r : Wanted) (vs : Values) → KnownIn w known → Makes w u alt → n ≡ alt.arity
       → of f (functions (shape u alt known p).parts (shape u alt known p).result) ≡ of f (functions (children q n) r) → HasEach w vs (map (of f) (children q n))
       → EndsAs w (of f r) (build alt.tag vs)
   build_well here u alt n known p q f r vs same d count e h =
@@ -289,7 +260,7 @@ module _ (w : World) (sound : IsSound w) where
       let c : count_of vs ≡ alt.arity = each_count w vs (map (of f) (children q n)) h ∙ (map_length (of f) (children q n) ∙ (children_length q n ∙ count)) in
       subst (EndsAs w (of f r)) (sym (built w sound u alt vs d c)) (
         map (of f) s.parts,
-        subst (λ g. MadeBy w alt.tag vs (map (of f) s.parts) g) m.1 (made_shape w sound u alt known p f vs same d c),
+        inl (subst (λ g. MadeBy w alt.tag vs (map (of f) s.parts) g) m.1 (made_shape w sound u alt known p f vs same d c)),
         subst (λ ts. HasEach w vs ts) (sym m.0) h,
       )
 
@@ -360,15 +331,15 @@ module _ (w : World) (sound : IsSound w) where
   fields_well xs here p t f v env U S proper bare sol has fits =
       let lacking = lack_items here (at (child p 0)) xs in
       let same = Same here (open_record xs (child p 1) (at (child p 0))) t ∷ [] in
-      let o = open_type f bare here xs (child p 1) (child p 0) proper (solves_left f lacking same sol) in
       let e : of f (open_record xs (child p 1) (at (child p 0))) ≡ of f t = up f (open_record xs (child p 1) (at (child p 0))) t (solves_right f lacking same sol).0 in
+      let o = open_type w sound f bare here xs (child p 1) (child p 0) v proper (solves_left f lacking same sol) (subst (λ g. Has w v g) (sym e) has) in
       let r = opened f xs (child p 1) (child p 0) v o (subst (λ g. Has w v g) (sym e) has) in
       subst (λ z. EndsWell (IfMatched (λ inner. Fits w inner U (bind_pattern (FieldsOf xs) p t S) f)) (matches (FieldsOf xs) z env)) (sym r.is)
       (bound f U S (child p 1) (onto xs (map (of f) (children (child p 1) (length xs))) o.others) r.fields r.have 0 xs env S.names o.typed fits)
 
   -- ---- whole operations
 
-  pub performs : (op : Op) (n : ℕ) (scope : Scope) (here : Pos) (p : Place) (t : Wanted) (f : Frame) (vs : Values) → scope.known ≡ w.known → IsOperation w op (suc n) → Stands f
+  pub performs : (op : Op) (n : ℕ) (scope : Scope) (here : Pos) (p : Place) (t : Wanted) (f : Frame) (vs : Values) → KnownIn w scope.known → IsOperation w op (suc n) → Stands f
       → SolvesPlan f (plan op (suc n) scope here p t) → HaveParts w f (plan op (suc n) scope here p t) vs → EndsAs w (of f t) (perform op vs)
   performs TupleOf n scope here p t f NoValue known proper bare sol h = absurd h
   performs TupleOf n scope here p t f (MoreValue v vs) known proper bare sol h =
@@ -388,19 +359,20 @@ module _ (w : World) (sound : IsSound w) where
   performs (Access x) n scope here p t f NoValue known proper bare sol h = absurd h
   performs (Access x) n scope here p t f (MoreValue v NoValue) known proper bare sol h =
       let fields : are_fields (x ∷ []) ≡ true = and_both (is_word x) true proper.0 refl in
-      let o = open_type f bare here (x ∷ []) (child p 2) (child p 1) (fields, tt) sol.before in
+      let o = open_type w sound f bare here (x ∷ []) (child p 2) (child p 1) v (fields, tt) sol.before h.0 in
       access_well f x (child p 2) (child p 1) t v o (up f (at (child (child p 2) 0)) t sol.after.0) h.0
   performs (Access x) n scope here p t f (MoreValue v (MoreValue u vs)) known proper bare sol h = absurd h.1
   performs (Update xs) n scope here p t f NoValue known proper bare sol h = absurd h
   performs (Update xs) n scope here p t f (MoreValue v vs) known proper bare sol h =
       let lacking = lack_items here (at (child p 1)) xs in
       let same = Same here (open_record xs (child p 2) (at (child p 1))) t ∷ [] in
-      let o = open_type f bare here xs (child p 2) (child p 1) proper.0 (solves_left f lacking same sol.between) in
-      update_well f xs (child p 2) (child p 1) t v vs o (up f (open_record xs (child p 2) (at (child p 1))) t (solves_right f lacking same sol.between).0) h.0 h.1
+      let e : of f (open_record xs (child p 2) (at (child p 1))) ≡ of f t = up f (open_record xs (child p 2) (at (child p 1))) t (solves_right f lacking same sol.between).0 in
+      let o = open_type w sound f bare here xs (child p 2) (child p 1) v proper.0 (solves_left f lacking same sol.between) (subst (λ g. Has w v g) (sym e) h.0) in
+      update_well f xs (child p 2) (child p 1) t v vs o e h.0 h.1
   performs Negate n scope here p t f NoValue known proper bare sol h = absurd h
   performs Negate n scope here p t f (MoreValue v NoValue) known proper bare sol h =
-      let is : int_type ≡ of f t = number_is_int (of f t) (class_in f bare Numbers (value f.values t) sol.before.0) (bare_kept f.stands bare.bare (value f.values t)) in
-      let r = int_value w sound v (of f t) (sym (ap form is)) h.0 in
+      let is : meets Numbers (of f t) ≡ true = class_in f bare Numbers (value f.values t) sol.before.0 in
+      let r = int_value w sound v (of f t) (number_form (of f t) is) h.0 in
       subst (λ z. EndsAs w (of f t) (perform Negate (MoreValue z NoValue))) (sym r.1)
       (fine_well (λ z. Has w z (of f t)) (negate r.0) (λ m. IntV m) (exact_fine (pos 0 -ℤ r.0)) (λ m. is))
   performs Negate n scope here p t f (MoreValue v (MoreValue u vs)) known proper bare sol h = absurd h.1
@@ -416,9 +388,9 @@ module _ (w : World) (sound : IsSound w) where
       (up f (operator_type op a) (functions (one ∷ two ∷ []) t) (solves_right f asked same sol.before).0) h.0 h.1.0
   performs (Binary place op) n scope here p t f (MoreValue v (MoreValue u (MoreValue x vs))) known proper bare sol h = absurd h.1.1
 
-  pub performs_none : (op : Op) (scope : Scope) (here : Pos) (p : Place) (t : Wanted) (f : Frame) → scope.known ≡ w.known → IsOperation w op 0 → Stands f
+  pub performs_none : (op : Op) (scope : Scope) (here : Pos) (p : Place) (t : Wanted) (f : Frame) → KnownIn w scope.known → IsOperation w op 0 → Stands f
       → Solves f.values (plan op 0 scope here p t).before → EndsAs w (of f t) (perform op NoValue)
-  performs_none TupleOf scope here p t f known proper bare sol = ([], inl (record { tag_is = refl; is = up f (tuple []) t sol.0 }), tt)
+  performs_none TupleOf scope here p t f known proper bare sol = ([], inl (inl (record { tag_is = refl; is = up f (tuple []) t sol.0 })), tt)
   performs_none ListOf scope here p t f known proper bare sol = list_well f (at (child p 1)) t 0 NoValue (up f (list_type (at (child p 1))) t sol.0) tt
   performs_none (Build place u alt) scope here p t f known proper bare sol =
       let s = shape u alt scope.known (child p 1) in

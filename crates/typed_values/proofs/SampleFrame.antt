@@ -1,42 +1,44 @@
--- The sample frame is one.
-use Rattle.std.proofs.Common.{◌≡◌, List, [], ◌∷◌, true, false, refl}
-use Rattle.elm_canon.specs.Names.{Name}
-use Rattle.elm_type.specs.Types.{Record, NoField, Closed, variables}
-use Rattle.elm_type.specs.Classes.{meets, is_any}
+-- The sample frame is one: a constant meets its class, and lacks its fields.
+use Rattle.std.proofs.Common.{◌≡◌, List, [], ◌∷◌, ◌++◌, Bool, true, false, refl, sym, ap, ◌∙◌}
+use Rattle.std.specs.Prelude.{◌||◌}
+use Rattle.std.specs.Str.{bytes_eq}
+use Rattle.std.proofs.lemmas.List.{append_assoc}
+use Rattle.std.proofs.lemmas.Slice.Eq.{bytes_eq-Decides}
+use Rattle.elm_type.specs.Types.{Name, Rigid, variable}
+use Rattle.elm_type.specs.Classes.{is_below}
 use Rattle.elm_type.specs.declared.class.Class.{Class}
 use Rattle.elm_type.specs.declared.class.Class.TheVariants.{Any, Number, Comparable, Appendable, CompAppend}
-use Rattle.ground_types.specs.Ground.{lacks_all}
-use Rattle.typed_values.specs.Sample.{sample_type, SampleStands}
+use Rattle.ground_types.specs.Ground.{contains, lacks_all}
+use Rattle.typed_values.specs.Sample.{SampleStands}
+use Rattle.typed_values.proofs.Keeping.{and_both}
 
-sample_bare : (c : Class) → variables (sample_type c) ≡ []
-sample_bare Any = refl
-sample_bare Number = refl
-sample_bare Comparable = refl
-sample_bare Appendable = refl
-sample_bare CompAppend = refl
+pub below_itself : (c : Class) → is_below c c ≡ true
+below_itself Any = refl
+below_itself Number = refl
+below_itself Comparable = refl
+below_itself Appendable = refl
+below_itself CompAppend = refl
 
-sample_class : (c : Class) → meets c (sample_type c) ≡ true
-sample_class Any = refl
-sample_class Number = refl
-sample_class Comparable = refl
-sample_class Appendable = refl
-sample_class CompAppend = refl
+or_second : (a b : Bool) → b ≡ true → (a || b) ≡ true
+or_second true b e = refl
+or_second false b e = e
 
-no_fields : (xs : List Name) → lacks_all xs (Record NoField Closed) ≡ true
-no_fields [] = refl
-no_fields (x ∷ xs) = no_fields xs
+or_first : (a b : Bool) → a ≡ true → (a || b) ≡ true
+or_first a b e = ap (λ c. c || b) e
 
-sample_rest : (c : Class) (xs : List Name) → is_any c ≡ true → lacks_all xs (sample_type c) ≡ true
-sample_rest Any xs e = no_fields xs
-sample_rest Number xs e = absurd (let z : false ≡ true = e in cc)
-sample_rest Comparable xs e = absurd (let z : false ≡ true = e in cc)
-sample_rest Appendable xs e = absurd (let z : false ≡ true = e in cc)
-sample_rest CompAppend xs e = absurd (let z : false ≡ true = e in cc)
+-- a name of a list is contained in it, whatever stands before it
+contained : (before : List Name) (x : Name) (after : List Name) → contains x (before ++ x ∷ after) ≡ true
+contained [] x after = or_first (bytes_eq x x) (contains x after) ((bytes_eq-Decides x x).1 refl)
+contained (y ∷ ys) x after = or_second (bytes_eq x y) (contains x (ys ++ x ∷ after)) (contained ys x after)
+
+pub lacks_own : (r : Rigid) (before own : List Name) → r.lacks ≡ before ++ own → lacks_all own (variable r) ≡ true
+lacks_own r before [] e = refl
+lacks_own r before (x ∷ xs) e =
+    and_both (contains x r.lacks) (lacks_all xs (variable r)) (ap (contains x) e ∙ contained before x xs)
+    (lacks_own r (before ++ x ∷ []) xs (e ∙ sym (append_assoc before (x ∷ []) xs)))
 
 pub sample_stands : SampleStands
 sample_stands = record {
-  bare = λ r. sample_bare r.class;
-  classes = λ r. sample_class r.class;
-  rests = λ r e. sample_rest r.class r.lacks e;
-  one_kind = λ p. tt;
+  classes = λ r. below_itself r.class;
+  rests = λ r. lacks_own r [] r.lacks refl;
 }

@@ -15,7 +15,7 @@ use Rattle.type_items.specs.Items.{Place, Wanted}
 use Rattle.type_items.specs.Scopes.{Known, leaf_at, instance}
 use Rattle.type_items.specs.Patterns.{Shape, parameters_of, result_of, declared_shape}
 use Rattle.typed_values.specs.Frames.{Frame, of, instance_leaf}
-use Rattle.typed_values.specs.World.{World, Constructor, Among, variables_of, made_type, IsOneOf, OfUnion, MadeBy, IsSound}
+use Rattle.typed_values.specs.World.{KnownIn, World, Constructor, Among, variables_of, made_type, IsOneOf, OfUnion, MadeBy, IsSound}
 use Rattle.typed_values.proofs.Names.{all_left, all_right}
 use Rattle.typed_values.proofs.Rows.{extend_none, substitute_twice, after_renamed, substitute_same}
 use Rattle.typed_values.proofs.Uses.{choice_at, leaf_of}
@@ -122,12 +122,12 @@ pub record HasShape (w : World) (m x : Name) (c : Constructor) (f : Frame) (p : 
   pub result : of f s.result ≡ substitute (choice f p) (made_type m x c)
 
 module _ (w : World) (sound : IsSound w) where
-  pub shape_of_declared : (m x : Name) (c : Constructor) (alt : Alternative) (known : Known) (f : Frame) (p : Place) → Among c (w.unions m x) → c.alternative ≡ alt → known ≡ w.known
+  pub shape_of_declared : (m x : Name) (c : Constructor) (alt : Alternative) (known : Known) (f : Frame) (p : Place) → Among c (w.unions m x) → c.alternative ≡ alt → KnownIn w known
       → HasShape w m x c f p (declared_shape (known m alt.name) alt.arity p)
   shape_of_declared m x c alt known f p among is same =
       let u = sound.unions m x in
-      let k = u.makes c among in
-      let found : known m alt.name ≡ Some k.0 = ap (λ z. z m alt.name) same ∙ (sym (ap (λ a. w.known m a.name) is) ∙ k.1) in
+      let k = u.makes known same c among in
+      let found : known m alt.name ≡ Some k.0 = sym (ap (λ a. known m a.name) is) ∙ k.1 in
       let type : instance k.0 p ≡ functions (map (renamed (leaf_at p)) c.fields) (renamed (leaf_at p) (made_type m x c)) =
       ap (renamed (leaf_at p)) k.2 ∙ renamed_functions (leaf_at p) c.fields (made_type m x c) in
       let n : length (map (renamed (leaf_at p)) c.fields) ≡ alt.arity = map_length (renamed (leaf_at p)) c.fields ∙ (u.counted c among ∙ ap (λ a. a.arity) is) in

@@ -17,7 +17,7 @@ use Rattle.typed_values.specs.Frames.{Frame, of, Stands, Serves, ground_instance
 use Rattle.typed_values.specs.Typed.{EndsWell, Has}
 use Rattle.typed_values.specs.Using.{UsesEndWell}
 use Rattle.typed_values.proofs.Rows.{extend_none, substitute_twice, after_renamed, substitute_same}
-use Rattle.typed_values.proofs.Keeping.{and_both, meets_any, fits_kept, bare_kept}
+use Rattle.typed_values.proofs.Keeping.{and_both, meets_any, fits_kept}
 use Rattle.typed_values.proofs.Names.{solves_left, solves_right}
 use Rattle.typed_values.proofs.Envs.{agree_refl, look_good}
 
@@ -79,10 +79,9 @@ use_good H (Instance s) pos p w S f stands serves h =
     let kinds = instance_items s.kinds pos q in
     let own = solves_right f kinds (Same pos (instance s q) w ∷ []) h in
     let chosen : Chosen s (choice_at f q) = record {
-      kinds = λ i. fits_kept f stands (kind_at s.kinds i) (f.values (child q i)) (stands.one_kind (child q i))
+      kinds = λ i. fits_kept f stands (kind_at s.kinds i) (f.values (child q i))
           (let e : 0 + i ≡ i = omega arith in
           subst (λ n. fits (kind_at s.kinds i) (f.values (child q n)) ≡ true) e (kinds_hold f s.kinds pos q 0 (solves_left f kinds (Same pos (instance s q) w ∷ []) h) i));
-      bare = λ i. bare_kept f.stands stands.bare (f.values (child q i));
     } in
     subst H (sym (of_instance f s q) ∙ ap (substitute f.stands) own.0) (serves f (choice_at f q) stands (agree_refl S f) chosen)
 use_good H (General list type) pos p w S f stands serves h =

@@ -1,9 +1,9 @@
 -- Frames: ground types for the variables of a module, and for its constants. In the run of a definition with an
 -- annotation its constants stand for the types of the use.
-use Rattle.std.specs.Prelude.{◌≡◌, ℕ, [], true, ◌⊎◌}
+use Rattle.std.specs.Prelude.{◌≡◌, ℕ, true}
 use Rattle.std.specs.List.{AllByRecursion}
-use Rattle.elm_type.specs.Types.{Rigid, Leaf, Free, Fixed, Kind, Scheme, variables, kind_at}
-use Rattle.elm_type.specs.Classes.{Ground, meets, is_any}
+use Rattle.elm_type.specs.Types.{Rigid, Leaf, Free, Fixed, Kind, Scheme, kind_at}
+use Rattle.elm_type.specs.Classes.{Ground, meets}
 use Rattle.elm_type.specs.Rows.{substitute}
 use Rattle.ground_types.specs.Ground.{value, lacks_all, fits}
 use Rattle.type_items.specs.Items.{Place, Wanted}
@@ -22,18 +22,11 @@ of f t = substitute f.stands (value f.values t)
 abbrev pub kind_of : Rigid → Kind
 kind_of r = record { class = r.class; lacks = r.lacks }
 
--- what has a class is the rest of no record
-abbrev pub IsOneKind : Rigid → Type 0
-IsOneKind r = (is_any r.class ≡ true) ⊎ (r.lacks ≡ [])
-
--- Constants stand for types without constants: a constant of a class for a type of the class, and any other for one
--- that lacks the constant's fields. (No type without constants is both of a class and the rest of a record. So types
--- name no constant that would be.)
+-- Constants stand for types of their classes, which lack their fields. A constant may stand for itself: of such a type
+-- there are no values but numbers, if its class has them.
 pub record Stands (f : Frame) : Type 0 where
-  pub bare : (r : Rigid) → variables (f.stands r) ≡ []
   pub classes : (r : Rigid) → meets r.class (f.stands r) ≡ true
-  pub rests : (r : Rigid) → is_any r.class ≡ true → lacks_all r.lacks (f.stands r) ≡ true
-  pub one_kind : (p : Place) → AllByRecursion IsOneKind (variables (f.values p))
+  pub rests : (r : Rigid) → lacks_all r.lacks (f.stands r) ≡ true
 
 -- two frames give the same to the types of the names that have one type, and to the annotations' variables around
 pub record Agree (scope : Scope) (f g : Frame) : Type 0 where
@@ -48,10 +41,9 @@ instance_leaf choice f (Fixed r) = f.stands r
 abbrev pub ground_instance : (ℕ → Ground) → Frame → Scheme → Ground
 ground_instance choice f s = substitute (instance_leaf choice f) s.type
 
--- the types are without constants, and of the scheme's kinds
+-- the types are of the scheme's kinds
 pub record Chosen (s : Scheme) (choice : ℕ → Ground) : Type 0 where
   pub kinds : (i : ℕ) → fits (kind_at s.kinds i) (choice i) ≡ true
-  pub bare : (i : ℕ) → variables (choice i) ≡ []
 
 -- What has such types serves a name with this entry: it has the one type; or each instance; or, wherever the items of
 -- its group are solved, the type that the name has there.

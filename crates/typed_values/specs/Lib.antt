@@ -1,4 +1,5 @@
 pub mod Frames
+pub mod Payloads
 pub mod World
 pub mod Simple
 pub mod Typed

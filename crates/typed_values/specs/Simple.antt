@@ -14,7 +14,7 @@ use Rattle.type_items.specs.Uses.{used, used_functions}
 use Rattle.type_items.specs.Definitions.{Definition}
 use Rattle.type_items.specs.Expressions.{definitions}
 use Rattle.pattern_check.specs.Missing.{missing}
-use Rattle.typed_values.specs.World.{World, Declares}
+use Rattle.typed_values.specs.World.{World, Declares, Makes}
 
 -- none of the names is hidden
 abbrev pub Without : (Ref → Bool) → List Ref → Type 0
@@ -66,7 +66,7 @@ pub record AreParameters (w : World) (qs : Patterns) : Type 0 where
 
 -- of so many parts
 abbrev pub IsOperation : World → Op → ℕ → Type 0
-IsOperation w (Build pos u alt) n = Declares w u alt × (n ≡ alt.arity)
+IsOperation w (Build pos u alt) n = Makes w u alt × (n ≡ alt.arity)
 IsOperation w (Update xs) n = AreFields xs × (n ≡ suc (length xs))
 IsOperation w op n = ProperOp op n
 

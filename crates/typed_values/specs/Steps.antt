@@ -1,5 +1,5 @@
 -- Each single step of evaluation keeps types.
-use Rattle.std.specs.Prelude.{◌≡◌, ℕ, suc, List, [], ◌∷◌, length, map, Bool, true, Option, Some, None}
+use Rattle.std.specs.Prelude.{◌≡◌, ℕ, suc, List, [], ◌∷◌, length, map, Bool, true, Option, Some, None, ◌⊎◌}
 use Rattle.std.specs.List.{AllByRecursion}
 use Rattle.elm_base.specs.declared.position.Pos.{Pos}
 use Rattle.runs.specs.Ends.{End, Val}
@@ -25,7 +25,7 @@ use Rattle.type_items.specs.Patterns.{shape, shape_items, literal_type, pattern_
 use Rattle.type_items.specs.Operations.{Plan, plan}
 use Rattle.type_items.specs.Solutions.{Solves}
 use Rattle.typed_values.specs.Frames.{Frame, of, Stands}
-use Rattle.typed_values.specs.World.{World, Declares, MadeBy, Knows}
+use Rattle.typed_values.specs.World.{KnownIn, World, Declares, MadeBy, OfPort, Knows}
 use Rattle.typed_values.specs.Typed.{EndsWell, Has, HasEach, Fits}
 use Rattle.pattern_check.specs.Missing.{missing}
 use Rattle.typed_values.specs.Exhaustive.{IsPatternOf}
@@ -66,11 +66,11 @@ pub record StepsKeepTypes (w : World) : Type 0 where
       → (b : Bool) × (is_literal l v ≡ Val b)
   pub truths : (v : Value) → Has w v bool_type → (b : Bool) × (v ≡ truth b)
   pub no_function : (tag : Tag) (vs : Values) (parts : List Ground) (a b : Ground)
-      → MadeBy w tag vs parts (function a b) → ⊥
+      → MadeBy w tag vs parts (function a b) ⊎ OfPort w tag vs parts (function a b) → ⊥
   pub constructs : (u : Union) (alt : Alternative) (k : Known) (here : Pos) (p : Place) (f : Frame) (v : Value)
-      → k ≡ w.known → Declares w u alt → Stands f → Solves f.values (shape_items u alt k here p)
+      → KnownIn w k → Declares w u alt → Stands f → Solves f.values (shape_items u alt k here p)
       → Has w v (of f (shape u alt k p).result) → Constructed w u alt (map (of f) (shape u alt k p).parts) v
-  pub counts : (u : Union) (alt : Alternative) (k : Known) (p : Place) → k ≡ w.known → Declares w u alt
+  pub counts : (u : Union) (alt : Alternative) (k : Known) (p : Place) → KnownIn w k → Declares w u alt
       → length (shape u alt k p).parts ≡ alt.arity
   -- what the pattern of a record binds
   pub fields : (xs : List Name) (here : Pos) (p : Place) (t : Wanted) (f : Frame) (v : Value) (env : Env)
@@ -90,8 +90,8 @@ pub record StepsKeepTypes (w : World) : Type 0 where
       → EndsAs w b (known k (append_values vs (MoreValue v NoValue)))
   -- operations on some parts, and on none
   pub performs : (op : Op) (n : ℕ) (scope : Scope) (here : Pos) (p : Place) (t : Wanted) (f : Frame) (vs : Values)
-      → scope.known ≡ w.known → IsOperation w op (suc n) → Stands f → SolvesPlan f (plan op (suc n) scope here p t)
+      → KnownIn w scope.known → IsOperation w op (suc n) → Stands f → SolvesPlan f (plan op (suc n) scope here p t)
       → HaveParts w f (plan op (suc n) scope here p t) vs → EndsAs w (of f t) (perform op vs)
   pub performs_none : (op : Op) (scope : Scope) (here : Pos) (p : Place) (t : Wanted) (f : Frame)
-      → scope.known ≡ w.known → IsOperation w op 0 → Stands f → Solves f.values (plan op 0 scope here p t).before
+      → KnownIn w scope.known → IsOperation w op 0 → Stands f → Solves f.values (plan op 0 scope here p t).before
       → EndsAs w (of f t) (perform op NoValue)

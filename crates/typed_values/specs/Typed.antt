@@ -1,5 +1,5 @@
--- Which values have which ground types, by recursion on the value; and when what is bound in an environment serves the
--- names of a scope.
+-- Which values have which ground types, by recursion on the value (a number has each type of the class `number`); and
+-- when what is bound in an environment serves the names of a scope.
 use Rattle.std.specs.Prelude.{◌≡◌, ℕ, List, [], ◌∷◌, map, Bool, true, false, ◌||◌, Some, ◌⊎◌}
 use Rattle.elm_base.specs.declared.position.Pos.{Pos}
 use Rattle.runs.specs.Ends.{End, Val, Crashed, OutOfFuel, Unsafe, Stuck}
@@ -9,9 +9,10 @@ use Rattle.elm_canon.specs.Tree.{Patterns, Expr, Functions, NoFunction, MoreFunc
 use Rattle.elm_proper.specs.Proper.{has_parameter, is_function}
 use Rattle.elm_meaning.specs.Values.{Value, IntV, TextV, TagV, RecordV, CloV, KnownV, WireV, Values, NoValue, MoreValue}
 use Rattle.elm_meaning.specs.Values.{FieldValues, NoFieldV, MoreFieldV, Env, Nil, Bind, BindGroup}
-use Rattle.elm_type.specs.Types.{Fields, Record, NoField, MoreField, Closed, Rigid, functions, int_type, char_type}
+use Rattle.elm_type.specs.Types.{Fields, Record, NoField, MoreField, Closed, Rigid, functions, char_type}
 use Rattle.elm_type.specs.Types.{string_type}
-use Rattle.elm_type.specs.Classes.{Ground}
+use Rattle.elm_type.specs.Classes.{Ground, meets}
+use Rattle.elm_type.specs.declared.class.Class.TheVariants.{Number}
 use Rattle.type_items.specs.Items.{Place, Wanted, Item}
 use Rattle.type_items.specs.Scopes.{Entry, Scope, entry_of}
 use Rattle.type_items.specs.Patterns.{patterns_items, patterns_names}
@@ -19,7 +20,7 @@ use Rattle.type_items.specs.Uses.{used}
 use Rattle.type_items.specs.Expressions.{items, function_items}
 use Rattle.type_items.specs.Solutions.{Solves}
 use Rattle.typed_values.specs.Frames.{Frame, of, Stands, Agree, Serves}
-use Rattle.typed_values.specs.World.{World, MadeBy, Knows}
+use Rattle.typed_values.specs.World.{KnownIn, World, MadeBy, OfPort, IsSent, Knows}
 use Rattle.typed_values.specs.Simple.{Without, Checked}
 
 -- the end is not Stuck, and its value is such
@@ -123,13 +124,14 @@ pub record GroupFits (w : World) (Fit : Fitting) (fs : Functions) (hidden : Ref 
 
 abbrev mutual
   pub Has : World → Value → Ground → Type 0
-  Has w (IntV n) g = int_type ≡ g
+  Has w (IntV n) g = meets Number g ≡ true
   Has w (TextV us) g = (string_type ≡ g) ⊎ (char_type ≡ g)
-  Has w (TagV tag vs) g = (parts : List Ground) × MadeBy w tag vs parts g × HasEach w vs parts
+  Has w (TagV tag vs) g =
+      (parts : List Ground) × (MadeBy w tag vs parts g ⊎ OfPort w tag vs parts g) × HasEach w vs parts
   Has w (RecordV fs) g = (ts : Fields Rigid) × (Record ts Closed ≡ g) × HaveFields w fs ts
   Has w (CloV env qs e) g = Closure w (λ hidden scope f. Fits w env hidden scope f) qs e g
   Has w (KnownV k vs) g = (parts : List Ground) × Knows w k parts g × HasEach w vs parts
-  Has w (WireV wire) g = ⊥
+  Has w (WireV wire) g = IsSent w wire g
 
   pub HasEach : World → Values → List Ground → Type 0
   HasEach w NoValue [] = Unit {0}
@@ -147,7 +149,7 @@ abbrev mutual
   -- name in the scope is bound. What is hidden from the start is not used.
   pub Fits : World → Env → (Ref → Bool) → Scope → Frame → Type 0
   Fits w Nil hidden scope f =
-      (scope.known ≡ w.known) × ((x : Ref) (entry : Entry) → entry_of scope x ≡ Some entry → hidden x ≡ true)
+      KnownIn w scope.known × ((x : Ref) (entry : Entry) → entry_of scope x ≡ Some entry → hidden x ≡ true)
   Fits w (Bind x v env) hidden scope f =
       (hidden x ≡ false → (entry : Entry) → entry_of scope x ≡ Some entry → Serves (λ g. Has w v g) entry scope f)
       × Fits w env (or_named x hidden) scope f

@@ -1,0 +1,2 @@
+-- covered sites make resolved expressions simple
+pub mod Covering

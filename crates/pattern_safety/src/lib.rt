@@ -1,0 +1,4 @@
+//! What the check of patterns gives to typed programs.
+#![tactic(auto)]
+
+pub mod laws;
