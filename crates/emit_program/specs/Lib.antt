@@ -1,0 +1,4 @@
+-- lines that go on
+pub mod Growth
+-- the ports in order, and a program by its parts
+pub mod Programs

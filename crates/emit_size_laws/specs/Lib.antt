@@ -1,0 +1,2 @@
+-- outputs that are not huge
+pub mod Small

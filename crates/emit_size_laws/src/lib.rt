@@ -1,0 +1,4 @@
+//! What the length of an output says of its program.
+#![tactic(auto)]
+
+pub mod laws;

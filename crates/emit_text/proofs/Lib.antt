@@ -1,0 +1,6 @@
+-- lines one after the other
+pub mod Joined
+-- ports in order
+pub mod Ordered
+-- the line of `_main`, piece by piece
+pub mod Pieces

@@ -1,0 +1,2 @@
+-- the texts of parts of an output
+pub mod Texts
