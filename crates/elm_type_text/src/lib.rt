@@ -3,8 +3,8 @@
 
 mod frame;
 pub mod laws;
-mod naming;
+pub mod naming;
 mod text;
-mod writing;
+pub mod writing;
 
 pub use text::type_text;

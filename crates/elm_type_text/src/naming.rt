@@ -233,7 +233,8 @@ fn give_all(alloc: Global, kinds: &[Kind], constants: &[Name]) -> Result<Vec<Nam
     Ok(names)
 }
 
-/// The names of the variables of a scheme that has them in order, by their places.
+/// The names of the variables of a scheme that has them in order of appearance, by their places, as `type_text` gives
+/// them. The error means that memory ran out.
 pub fn names_of(alloc: Global, scheme: &Scheme) -> Result<Vec<Name>, AllocError>
     ensures { IfOk result (λ names. names.items ≡ names_of (scheme_view scheme.now)) }
 {

@@ -303,7 +303,8 @@ fn write_node(
     }
 }
 
-/// The text of a type, in units. The names of its variables are listed by their numbers.
+/// The text of a type, in UTF-16 units. `names` has the names of its variables by their numbers. The error means that
+/// memory ran out.
 pub fn write(alloc: Global, ty: &Ty, names: &[Name]) -> Result<Vec<u16>, AllocError>
     ensures { IfOk result (λ text. text.items ≡ text_in (leaf_name names.now) Around.Alone (type_view ty.now)) }
 {

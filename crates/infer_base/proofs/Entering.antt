@@ -95,7 +95,7 @@ module _ (says_with_more : SaysWithMore) (a : Around) (s : Store) (links more : 
   entry_more (Some (Many frozen)) None h = absurd h
   entry_more (Some (Many frozen)) (Some (Mono t)) h = absurd h
   entry_more (Some (Many frozen)) (Some (Instance scheme)) h = absurd h
-  entry_more (Some (Many frozen)) (Some (General list type)) h = says_with_more a s links more frozen list type tells h
+  entry_more (Some (Many frozen)) (Some (General list type)) h = (says_with_more a s links more frozen list type tells h.0, h.1)
   entry_more (Some (Each t)) None h = absurd h
   entry_more (Some (Each t)) (Some (Mono u)) h = absurd h
   entry_more (Some (Each t)) (Some (Instance scheme)) h = declared_more t scheme h
@@ -177,7 +177,7 @@ enters_one says_with_more a links code scope s x v t live m = record {
 }
 
 pub enters_many : EntersMany
-enters_many a links code scope s x frozen list type says m = record {
+enters_many a links code scope s x frozen list type says plain m = record {
   live = m.live;
   known = m.known;
   names = λ y. go y (same_ref y x);
@@ -188,7 +188,7 @@ enters_many a links code scope s x frozen list type says m = record {
   where
     go : (y : Ref) (b : Bool) → MeansEntry a links s (if b then Some (Many frozen) else code.names y)
         (if b then Some (General list type) else lookup (same_ref y) scope.names)
-    go y true = says
+    go y true = (says, plain)
     go y false = m.names y
 
 pub enters_each : EntersEach

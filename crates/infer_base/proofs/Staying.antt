@@ -152,7 +152,7 @@ module _ (says_later : SaysLater) (a : Around) (R : Region) (items : List Item) 
   entry_on (Some (Many frozen)) (Some (Mono t)) ready h = absurd h
   entry_on (Some (Many frozen)) (Some (Instance scheme)) ready h = absurd h
   entry_on (Some (Many frozen)) (Some (General list type)) ready h =
-      says_later a R items s s' before after links frozen list type live (ready (Many frozen) refl).live walk h
+      (says_later a R items s s' before after links frozen list type live (ready (Many frozen) refl).live walk h.0, h.1)
   entry_on (Some (Each t)) None ready h = absurd h
   entry_on (Some (Each t)) (Some (Mono u)) ready h = absurd h
   entry_on (Some (Each t)) (Some (Instance scheme)) ready h = h

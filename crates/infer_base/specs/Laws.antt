@@ -11,6 +11,7 @@ use Rattle.type_walks.specs.Links.{Links, Live, AreLive, Tells}
 use Rattle.type_walks.specs.Walks.{Around, Walk}
 use Rattle.type_copies.specs.Frozen.{Frozen}
 use Rattle.type_copies.specs.Says.{Says}
+use Rattle.type_refusals.specs.Passing.{NoSizes}
 use Rattle.infer_base.specs.Codes.{Declared, Meaning, One, Many, Each, Code, State, Bound, with_meaning, with_bound}
 use Rattle.infer_base.specs.Codes.{with_constant}
 use Rattle.infer_base.specs.Ready.{MeaningReady, IsReady, Follows}
@@ -78,12 +79,12 @@ EntersOne =
     → Live a.depth s v → Means a links code scope s
     → Means a ((v, t) ∷ links) (with_meaning x (One v) code) (with_names ((x, Mono t) ∷ []) scope) s
 
--- a general name
+-- a general name, whose copies ask for no sizes
 abbrev pub EntersMany : Type 0
 EntersMany =
     (a : Around) (links : Links) (code : Code) (scope : Scope) (s : Store) (x : Ref) (frozen : Frozen)
     (list : Place → List Item) (type : Place → Wanted)
-    → Says a s links frozen list type → Means a links code scope s
+    → Says a s links frozen list type → ((q : Place) → NoSizes (list q)) → Means a links code scope s
     → Means a links (with_meaning x (Many frozen) code) (with_names ((x, General list type) ∷ []) scope) s
 
 -- a name with an annotation

@@ -9,6 +9,7 @@ use Rattle.elm_canon.specs.Names.{same_ref}
 use Rattle.elm_canon.specs.declared.reference.Ref.{Ref}
 use Rattle.elm_canon.specs.declared.reference.Ref.TheVariants.{Local}
 use Rattle.elm_type.specs.Types.{Name, variable, renamed, Rigid, Leaf, Free, Fixed, Scheme}
+use Rattle.type_items.specs.Items.{Place}
 use Rattle.type_items.specs.Scopes.{Entry, Mono, Instance, General, Entries, Scope}
 use Rattle.type_items.specs.Definitions.{outer_types}
 use Rattle.type_store.specs.Store.{Store}
@@ -18,6 +19,7 @@ use Rattle.type_walks.specs.Regions.{below}
 use Rattle.type_walks.specs.Walks.{Around}
 use Rattle.type_copies.specs.Says.{Says}
 use Rattle.type_scopes.specs.Constants.{Outer}
+use Rattle.type_refusals.specs.Passing.{NoSizes}
 use Rattle.infer_base.specs.Codes.{Declared, Meaning, One, Many, Each, Code, State, Bound}
 
 -- ---- types that are written
@@ -37,11 +39,12 @@ pub record IsDeclared (links : Links) (t : Declared) (s : Scheme) : Type 0 where
 
 -- ---- names
 
--- a name of the code stands for that of a scope
+-- A name of the code stands for that of a scope. The copies of a general name ask for no sizes.
 abbrev pub MeansEntry : Around → Links → Store → Option Meaning → Option Entry → Type 0
 MeansEntry a links s None None = Unit {0}
 MeansEntry a links s (Some (One v)) (Some (Mono t)) = Has links v t
-MeansEntry a links s (Some (Many frozen)) (Some (General list type)) = Says a s links frozen list type
+MeansEntry a links s (Some (Many frozen)) (Some (General list type)) =
+    Says a s links frozen list type × ((q : Place) → NoSizes (list q))
 MeansEntry a links s (Some (Each t)) (Some (Instance scheme)) = IsDeclared links t scheme
 MeansEntry a links s _ _ = ⊥
 
