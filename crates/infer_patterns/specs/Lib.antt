@@ -1,0 +1,4 @@
+pub mod Once
+pub mod View
+pub mod Matches
+pub mod Scopes

@@ -1,0 +1,2 @@
+-- variables of constructors
+pub mod Shaping

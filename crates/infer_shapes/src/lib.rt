@@ -1,0 +1,4 @@
+//! Constructors: variables for what one makes and for its fields.
+#![tactic(auto)]
+
+pub mod shape;

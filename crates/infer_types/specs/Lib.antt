@@ -1,0 +1,5 @@
+pub mod Stacks
+pub mod Writing
+pub mod Functions
+pub mod Instances
+pub mod Uses
