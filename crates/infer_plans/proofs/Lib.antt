@@ -1,0 +1,2 @@
+-- constructors with all their fields
+mod Building

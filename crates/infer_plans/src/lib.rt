@@ -1,0 +1,5 @@
+//! What operations ask before their parts are walked.
+#![tactic(auto)]
+
+pub mod build;
+pub mod operations;
