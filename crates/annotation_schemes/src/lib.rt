@@ -1,0 +1,10 @@
+//! Annotations as schemes.
+#![tactic(auto)]
+
+mod beside;
+mod classes;
+mod fields;
+mod names;
+mod nodes;
+mod order;
+pub mod written;

@@ -1,0 +1,4 @@
+pub mod Schemes
+pub mod Rows
+pub mod Tasks
+pub mod Seen
