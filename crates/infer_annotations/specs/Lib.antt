@@ -1,0 +1,5 @@
+pub mod Once
+pub mod Asking
+pub mod Fixing
+pub mod Own
+pub mod Top

@@ -1,0 +1,6 @@
+pub mod Defined
+pub mod Members
+pub mod General
+pub mod Names
+pub mod Lets
+pub mod Laws

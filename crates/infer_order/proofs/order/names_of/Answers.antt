@@ -1,0 +1,16 @@
+use Rattle.std.proofs.Common.{◌++◌, ap, ◌∙◌}
+use Rattle.infer_order.proofs.Standing.{group_there, no_group}
+use Rattle.infer_order.proofs.order.names_of.Goals as goal
+
+pub returns-in_ok-push_names-in-Some : goal.returns-in_ok-push_names-in-Some
+returns-in_ok-push_names-in-Some c d is =
+    let x = c.args.definition.now in
+    c.in_ok-push_names-in-Some.ensures d
+    (group_there c.args.groups.now x.group x.function d is.at c.in-Some.group.now c.in-Some.ensures.lookup.0
+    c.in-Some.ensures.lookup.1)
+    ∙ ap (λ l. l ++ d.names) c.new-names.ensures.items
+
+pub returns-in-None : goal.returns-in-None
+returns-in-None c d is =
+    let x = c.args.definition.now in
+    absurd (no_group c.args.groups.now x.group x.function d is.at c.in-None.ensures.lookup.0)

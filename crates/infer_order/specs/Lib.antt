@@ -1,0 +1,5 @@
+pub mod Keys
+pub mod Owners
+pub mod Links
+pub mod Spots
+pub mod Order
