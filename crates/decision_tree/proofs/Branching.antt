@@ -1,10 +1,12 @@
 -- The rows of branches.
-use Rattle.std.proofs.Common.{◌≡◌, ℕ, suc, ◌+◌, ◌<◌, List, [], ◌∷◌, length, map, drop, get_or, sym, ap, ◌∙◌, arith}
+use Rattle.std.proofs.Common.{◌≡◌, ℕ, suc, ◌+◌, ◌<◌, List, [], ◌∷◌, ◌++◌, length, map, drop, get_or, sym, ap, ◌∙◌}
+use Rattle.std.proofs.Common.{arith}
+use Rattle.std.proofs.Common.{append_assoc}
 use Rattle.elm_canon.specs.Tree.{branches_of}
 use Rattle.elm_canon.specs.View.{pattern_view, branch_view}
 use Rattle.elm_canon.specs.declared.tree.Branch.{Branch}
 use Rattle.elm_canon.proofs.Views.{branch}
-use Rattle.js_emit.specs.Matrix.{Row, size, rows_from, rows_size}
+use Rattle.js_emit.specs.Matrix.{Row, rows_from}
 use Rattle.decision_tree.proofs.Lists.{drop_at}
 
 pub branch_more : (i : ℕ) (bs : List Branch) (b : Branch) → i < length bs → get_or bs i b ≡ b
@@ -19,10 +21,14 @@ branch_more i bs b h at =
     ∙ ap (λ n. record { patterns = pattern_view b.pattern ∷ []; branch = i }
     ∷ rows_from n (branches_of (map branch_view (drop (i + 1) bs)))) next)
 
-pub sized_more : (i : ℕ) (bs : List Branch) (b : Branch) (total more new all : ℕ) → i < length bs → get_or bs i b ≡ b
-    → more ≡ size (pattern_view b.pattern) → new ≡ total + more
-    → total + rows_size (rows_from i (branches_of (map branch_view (drop i bs)))) ≡ all
-    → new + rows_size (rows_from (i + 1) (branches_of (map branch_view (drop (i + 1) bs)))) ≡ all
-sized_more i bs b total more new all h at asks is so =
-    let split = ap rows_size (branch_more i bs b h at) in
-    omega (arith, split, asks, is, so)
+-- one row more, after others
+pub row_more : (out new : List Row) (i : ℕ) (bs : List Branch) (b : Branch) (r : Row) (all : List Row)
+    → new ≡ out ++ r ∷ [] → r ≡ record { patterns = pattern_view b.pattern ∷ []; branch = i } → i < length bs
+    → get_or bs i b ≡ b → out ++ rows_from i (branches_of (map branch_view (drop i bs))) ≡ all
+    → new ++ rows_from (i + 1) (branches_of (map branch_view (drop (i + 1) bs))) ≡ all
+row_more out new i bs b r all is one h at so =
+    let rest = rows_from (i + 1) (branches_of (map branch_view (drop (i + 1) bs))) in
+    ap (λ z. z ++ rest) is
+    ∙ (append_assoc out (r ∷ []) rest
+    ∙ (ap (λ z. out ++ (z ∷ rest)) one
+    ∙ (ap (λ z. out ++ z) (sym (branch_more i bs b h at)) ∙ so)))

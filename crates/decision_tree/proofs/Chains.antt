@@ -1,6 +1,6 @@
 -- The tests of a column in turn.
-use Rattle.std.proofs.Common.{◌≡◌, ℕ, zero, suc, ◌+◌, ◌<◌, ◌≤◌, List, [], ◌∷◌, length, drop, get_or, Bool, true, false}
-use Rattle.std.proofs.Common.{refl, sym, ap, ◌∙◌, arith, subst, drop-cons, if◌then◌else◌}
+use Rattle.std.proofs.Common.{◌≡◌, ℕ, suc, ◌+◌, ◌<◌, ◌≤◌, List, [], ◌∷◌, length, drop, get_or, Bool, true, false}
+use Rattle.std.proofs.Common.{refl, ap, ◌∙◌, arith, drop-cons, if◌then◌else◌}
 use Rattle.std.proofs.lemmas.List.{length-drop, drop_all, length-map}
 use Rattle.js_tree.specs.Tree.{Js, JConditional}
 use Rattle.js_emit.specs.Matrix.{Test}
@@ -57,9 +57,11 @@ pub at_last : (subject : ℕ) (c : Chain) (t : declared.Test) → c.next < lengt
     → get_or c.tests.items c.next t ≡ t → c.is_whole ≡ true → c.next + 1 ≡ length c.tests.items
     → chain_js subject c ≡ chosen_js subject c (test_view t)
 at_last subject c t h at w e =
-    chain_last (chosen_js subject c) (path_view subject c.path) c.is_whole (rest_js subject c) (tests_view c.tests.items)
+    chain_last (chosen_js subject c) (path_view subject c.path) c.is_whole (rest_js subject c)
+    (tests_view c.tests.items)
     c.next (test_view t) (omega (arith, h, length-map c.tests.items test_view))
-    (map_at test_view c.tests.items c.next t (test_view t) h at) w (omega (arith, e, length-map c.tests.items test_view))
+    (map_at test_view c.tests.items c.next t (test_view t) h at) w
+    (omega (arith, e, length-map c.tests.items test_view))
 
 pub at_next : (subject : ℕ) (c : Chain) (t : declared.Test) → c.next < length c.tests.items
     → get_or c.tests.items c.next t ≡ t → (c.is_whole ≡ true → c.next + 1 ≡ length c.tests.items → ⊥)
@@ -67,7 +69,8 @@ pub at_next : (subject : ℕ) (c : Chain) (t : declared.Test) → c.next < lengt
     ≡ JConditional (test_js (test_view t) (path_view subject c.path)) (chosen_js subject c (test_view t))
     (chain_js subject (advanced c))
 at_next subject c t h at other =
-    chain_next (chosen_js subject c) (path_view subject c.path) c.is_whole (rest_js subject c) (tests_view c.tests.items)
+    chain_next (chosen_js subject c) (path_view subject c.path) c.is_whole (rest_js subject c)
+    (tests_view c.tests.items)
     c.next (test_view t) (omega (arith, h, length-map c.tests.items test_view))
     (map_at test_view c.tests.items c.next t (test_view t) h at)
     (λ w e. other w (omega (arith, e, length-map c.tests.items test_view)))

@@ -1,9 +1,9 @@
 -- The column that is tested, from left to right.
-use Rattle.std.proofs.Common.{◌≡◌, ℕ, zero, suc, ◌+◌, ◌<◌, ◌≤◌, List, [], ◌∷◌, length, drop, get_or, refl, sym, ap, ◌∙◌}
+use Rattle.std.proofs.Common.{◌≡◌, ℕ, zero, suc, ◌+◌, ◌<◌, List, [], ◌∷◌, length, drop, get_or, refl, sym, ap, ◌∙◌}
 use Rattle.std.proofs.Common.{arith, drop-cons, Option, Some, None}
 use Rattle.elm_canon.specs.Tree.{Pattern}
 use Rattle.js_tree.specs.Tree.{Js}
-use Rattle.js_emit.specs.Matrix.{Test, Ask, Nothing, First, ask}
+use Rattle.js_emit.specs.Matrix.{Test, Nothing, First, ask}
 use Rattle.js_emit.specs.Choice.{Column, one_further, column_or, first_column}
 use Rattle.decision_tree.specs.Run.{further_by}
 
@@ -23,7 +23,8 @@ further_some (suc n) t path = ap one_further (further_some n t path)
 
 at_both : (paths : List Js) (ps : List Pattern) (i : ℕ) (path : Js) (p : Pattern) → i < length paths → i < length ps
     → get_or paths i path ≡ path → get_or ps i p ≡ p
-    → first_column (drop i paths) (drop i ps) ≡ column_or (ask p) path (first_column (drop (suc i) paths) (drop (suc i) ps))
+    → first_column (drop i paths) (drop i ps)
+    ≡ column_or (ask p) path (first_column (drop (suc i) paths) (drop (suc i) ps))
 at_both paths ps i path p h g at is =
     ap (λ zs. first_column zs (drop i ps)) (drop-cons paths i path h)
     ∙ (ap (λ zs. first_column (get_or paths i path ∷ drop (suc i) paths) zs) (drop-cons ps i p g)
@@ -43,7 +44,8 @@ column_next paths ps i path p all h g at is asks so =
     ∙ ap (λ n. further_by n (first_column (drop n paths) (drop n ps))) next))
 
 -- one that is tested
-pub column_found : (paths : List Js) (ps : List Pattern) (i : ℕ) (path : Js) (p : Pattern) (all : Option Column) (t : Test)
+pub column_found : (paths : List Js) (ps : List Pattern) (i : ℕ) (path : Js) (p : Pattern) (all : Option Column)
+    (t : Test)
     (qs : List Pattern)
     → i < length paths → i < length ps → get_or paths i path ≡ path → get_or ps i p ≡ p → First t qs ≡ ask p
     → all ≡ further_by i (first_column (drop i paths) (drop i ps))

@@ -2,6 +2,7 @@ pub mod Lists
 pub mod Asking
 pub mod Marks
 pub mod Sizes
+pub mod Steady
 pub mod Columns
 pub mod Narrowing
 pub mod Splitting

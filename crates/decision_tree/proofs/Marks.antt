@@ -1,6 +1,6 @@
 -- What tells tests.
 use Rattle.std.proofs.Common.{◌≡◌, ℕ, zero, suc, ◌<◌, List, [], ◌∷◌, length, get_or, Bool, true, false, if◌then◌else◌}
-use Rattle.std.proofs.Common.{Option, Some, pos, refl, sym, ap, ◌∙◌, arith, subst}
+use Rattle.std.proofs.Common.{Some, pos, refl, ap, ◌∙◌, arith}
 use Rattle.elm_canon.specs.Unions.{Union, TupleUnion, tuple_alternative}
 use Rattle.elm_canon.specs.declared.unions.Alternative.{Alternative}
 use Rattle.elm_canon.specs.declared.unions.Tag.TheVariants.{Number}
@@ -26,7 +26,8 @@ same_tagged u a (Literally l) = refl
 same_tagged u a (Tagged v b) = refl
 
 -- one that is the same makes the test one of them
-pub has_at : (t : Test) (u : Union) (cs : List Alternative) (i : ℕ) (a : Alternative) → i < length cs → get_or cs i a ≡ a
+pub has_at : (t : Test) (u : Union) (cs : List Alternative) (i : ℕ) (a : Alternative) → i < length cs
+    → get_or cs i a ≡ a
     → same_test t (Tagged u a) ≡ true → has_test t (tests_of_union u cs) ≡ true
 has_at t u [] i a h at e = absurd (omega (arith, h))
 has_at t u (b ∷ cs) zero a h at e =

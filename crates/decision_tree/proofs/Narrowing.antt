@@ -1,12 +1,13 @@
 -- What is left of rows.
-use Rattle.std.proofs.Common.{◌≡◌, ℕ, zero, suc, ◌<◌, ◌≤◌, List, [], ◌∷◌, ◌++◌, length, take, drop, get_or, refl, sym, ap, ◌∙◌}
-use Rattle.std.proofs.Common.{arith, map, ◌+◌, append_assoc, Option, Some, None, option_map}
+use Rattle.std.proofs.Common.{◌≡◌, ℕ, zero, suc, ◌<◌, ◌≤◌, List, [], ◌∷◌, ◌++◌, length, take, drop, get_or, refl, sym}
+use Rattle.std.proofs.Common.{ap, ◌∙◌}
+use Rattle.std.proofs.Common.{arith, ◌+◌, append-nil, Option, Some, None, option_map}
 use Rattle.elm_canon.specs.Tree.{Pattern}
-use Rattle.js_emit.specs.Matrix.{Ask, Nothing, ask, ask_at, in_place, after_one, narrowed}
-use Rattle.decision_tree.specs.Views.{part_view, parts_view}
+use Rattle.js_emit.specs.Matrix.{Ask, Nothing, ask, ask_at, in_place, after_one, narrowed, keep}
+use Rattle.decision_tree.specs.Views.{part_view, parts_view, row_of}
 use Rattle.decision_tree.specs.declared.part.Part.{Part}
 use Rattle.decision_tree.proofs.Lists.{map_at}
-use Rattle.std.proofs.lemmas.List.{length-map, map-append, take-map, drop-map}
+use Rattle.std.proofs.lemmas.List.{length-map, take-map, drop-map}
 
 -- with what is left of the column in its place
 abbrev pub placed : ℕ → List Pattern → List Pattern → List Pattern
@@ -22,7 +23,8 @@ first_placed : (p : Pattern) (ps : List Pattern) (left : Option (List Pattern))
 first_placed p ps None = refl
 first_placed p ps (Some qs) = refl
 
-pub narrowed_at : (left : Ask → Option (List Pattern)) (column : ℕ) (ps : List Pattern) (d : Pattern) → column < length ps
+pub narrowed_at : (left : Ask → Option (List Pattern)) (column : ℕ) (ps : List Pattern) (d : Pattern)
+    → column < length ps
     → narrowed left column ps ≡ option_map (placed column ps) (left (ask (get_or ps column d)))
 narrowed_at left column [] d h = absurd (omega (arith, h))
 narrowed_at left zero (p ∷ ps) d h = first_placed p ps (left (ask p))
@@ -61,35 +63,41 @@ ask_none ps column h = ask_past column (parts_view ps) (omega (arith, h, length-
 pub narrowed_here : (left : Ask → Option (List Pattern)) (ps : List Part) (column : ℕ) (x : Part) → column < length ps
     → get_or ps column x ≡ x
     → narrowed left column (parts_view ps)
-    ≡ option_map (λ qs. take column (parts_view ps) ++ (qs ++ drop (suc column) (parts_view ps))) (left (ask (part_view x)))
+    ≡ option_map (λ qs. take column (parts_view ps) ++ (qs ++ drop (suc column) (parts_view ps)))
+    (left (ask (part_view x)))
 narrowed_here left ps column x h at =
     narrowed_at left column (parts_view ps) (part_view x) (omega (arith, h, length-map ps part_view))
-    ∙ ap (λ p. option_map (placed column (parts_view ps)) (left (ask p))) (map_at part_view ps column x (part_view x) h at)
+    ∙ ap (λ p. option_map (placed column (parts_view ps)) (left (ask p)))
+    (map_at part_view ps column x (part_view x) h at)
 
 pub narrowed_none : (left : Ask → Option (List Pattern)) (ps : List Part) (column : ℕ) → length ps ≤ column
     → narrowed left column (parts_view ps) ≡ Some (parts_view ps)
 narrowed_none left ps column h =
     narrowed_past left column (parts_view ps) (omega (arith, h, length-map ps part_view))
 
--- by what is left of the column
-pub narrow_law : (left : Ask → Option (List Pattern)) (ps : List Part) (column : ℕ) (x : Part) (a : Ask)
-    (o : Option (List Pattern)) → column < length ps → get_or ps column x ≡ x → a ≡ ask (part_view x) → o ≡ left a
-    → narrowed left column (parts_view ps)
-    ≡ option_map (λ qs. take column (parts_view ps) ++ (qs ++ drop (suc column) (parts_view ps))) o
-narrow_law left ps column x a o h at asks leaves =
-    narrowed_here left ps column x h at
-    ∙ ap (option_map (placed column (parts_view ps))) (sym (leaves ∙ ap left asks))
+-- a row that has no such column stays as it is
+pub row_past : (left : Ask → Option (List Pattern)) (ps : List Part) (column branch : ℕ) → length ps ≤ column
+    → row_of branch (parts_view ps ++ ([] ++ [])) ∷ [] ≡ keep (narrowed left column (parts_view ps)) branch []
+row_past left ps column branch h =
+    ap (λ qs. row_of branch qs ∷ []) (append-nil (parts_view ps))
+    ∙ sym (ap (λ o. keep o branch []) (narrowed_none left ps column h))
 
-pub replaced_parts : (ps : List Part) (column : ℕ) (inner : List Pattern) (e1 e2 e3 : List Part)
-    → e1 ≡ take column ps → parts_view e2 ≡ parts_view e1 ++ inner → e3 ≡ e2 ++ drop (column + 1) ps
-    → parts_view e3 ≡ take column (parts_view ps) ++ (inner ++ drop (suc column) (parts_view ps))
-replaced_parts ps column inner e1 e2 e3 first second third =
+-- by what is left of the column
+pub row_left : (left : Ask → Option (List Pattern)) (ps : List Part) (column branch : ℕ) (x : Part) (a : Ask)
+    (o : Option (List Pattern)) → column < length ps → get_or ps column x ≡ x → a ≡ ask (part_view x) → o ≡ left a
+    → keep (option_map (placed column (parts_view ps)) o) branch []
+    ≡ keep (narrowed left column (parts_view ps)) branch []
+row_left left ps column branch x a o h at asks leaves =
+    sym (ap (λ z. keep z branch []) (narrowed_here left ps column x h at
+    ∙ ap (option_map (placed column (parts_view ps))) (sym (leaves ∙ ap left asks))))
+
+-- the parts before the column and after it
+pub parts_around : (ps before after : List Part) (column : ℕ) (inner : List Pattern) → before ≡ take column ps
+    → after ≡ drop (column + 1) ps
+    → parts_view before ++ (inner ++ parts_view after) ≡ placed column (parts_view ps) inner
+parts_around ps before after column inner first second =
     let next : column + 1 ≡ suc column = omega arith in
-    let after = parts_view (drop (column + 1) ps) in
-    ap parts_view third
-    ∙ (map-append part_view e2 (drop (column + 1) ps)
-    ∙ (ap (λ us. us ++ after) (second ∙ ap (λ us. parts_view us ++ inner) first)
-    ∙ (append_assoc (parts_view (take column ps)) inner after
-    ∙ (ap (λ us. us ++ (inner ++ after)) (sym (take-map part_view column ps))
+    ap (λ us. parts_view us ++ (inner ++ parts_view after)) first
+    ∙ (ap (λ us. us ++ (inner ++ parts_view after)) (sym (take-map part_view column ps))
     ∙ ap (λ us. take column (parts_view ps) ++ (inner ++ us))
-    (ap (λ n. parts_view (drop n ps)) next ∙ sym (drop-map part_view (suc column) ps))))))
+    (ap parts_view second ∙ (ap (λ n. parts_view (drop n ps)) next ∙ sym (drop-map part_view (suc column) ps))))

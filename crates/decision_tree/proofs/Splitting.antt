@@ -1,5 +1,6 @@
 -- The paths of the parts of a column.
-use Rattle.std.proofs.Common.{◌≡◌, ℕ, zero, suc, ◌+◌, ◌-◌, ◌<◌, ◌≤◌, List, [], ◌∷◌, ◌++◌, length, take, drop, get_or, refl}
+use Rattle.std.proofs.Common.{◌≡◌, ℕ, zero, suc, ◌+◌, ◌-◌, ◌<◌, ◌≤◌, List, [], ◌∷◌, ◌++◌, length, take, drop, get_or}
+use Rattle.std.proofs.Common.{refl}
 use Rattle.std.proofs.Common.{sym, ap, ◌∙◌, arith, pos}
 use Rattle.std.proofs.Common.{map, append_assoc}
 use Rattle.std.proofs.lemmas.List.{length-map, take-map, drop-map}
@@ -47,3 +48,19 @@ split_whole f paths column arity x o1 o2 o3 h at first second third =
     ∙ (ap (λ e. take column (map f paths) ++ (part_paths arity 0 e ++ drop (suc column) (map f paths)))
     (sym (map_at f paths column x d h at))
     ∙ sym (split_at arity column (map f paths) d (omega (arith, h, length-map paths f))))))))
+
+-- the same after other paths
+pub split_more : {A : Type 0} (f : A → Js) (paths : List A) (column arity : ℕ) (x : A) (o0 o1 o2 o3 : List Js)
+    → column < length paths → get_or paths column x ≡ x → o1 ≡ o0 ++ map f (take column paths)
+    → o2 ≡ o1 ++ part_paths arity 0 (f x) → o3 ≡ o2 ++ map f (drop (column + 1) paths)
+    → o3 ≡ o0 ++ split_path arity column (map f paths)
+split_more f paths column arity x o0 o1 o2 o3 h at first second third =
+    let before = map f (take column paths) in
+    let parts = part_paths arity 0 (f x) in
+    let after = map f (drop (column + 1) paths) in
+    third
+    ∙ (ap (λ us. us ++ after) (second ∙ ap (λ us. us ++ parts) first)
+    ∙ (ap (λ us. us ++ after) (append_assoc o0 before parts)
+    ∙ (append_assoc o0 (before ++ parts) after
+    ∙ ap (λ us. o0 ++ us)
+    (split_whole f paths column arity x before (before ++ parts) ((before ++ parts) ++ after) h at refl refl refl))))

@@ -1,17 +1,18 @@
 -- The column that is tested, and what is still to be done for a tree.
-use Rattle.std.specs.Prelude.{ℕ, zero, suc, ◌+◌, ◌-◌, ◌<◌, ⊤, pos, List, [], ◌∷◌, drop, get_or, length, Option}
+use Rattle.std.specs.Prelude.{ℕ, zero, suc, ◌+◌, ◌<◌, ⊤, pos, List, [], ◌∷◌, drop, get_or, length, Option}
 use Rattle.js_tree.specs.Tree.{Js, JInt, JConditional}
 use Rattle.js_tree.specs.Postorder.{Tree, Expression, top, below, expression}
 use Rattle.js_emit.specs.Matrix as matrix
-use Rattle.js_emit.specs.Matrix.{arity_of, left_by, left_over, narrow, tests_in, is_whole}
-use Rattle.js_emit.specs.Choice.{Column, one_further, first_column, split_path, test_js, tree, chain}
-use Rattle.decision_tree.specs.Views.{test_view, tests_view, rows_view, path_view, paths_view}
+use Rattle.js_emit.specs.Matrix.{arity_of, left_by, left_over, narrow, tests_in, is_whole, rows_size}
+use Rattle.js_emit.specs.Choice.{Column, one_further, split_path, tree, chain}
+use Rattle.decision_tree.specs.Views.{test_view, tests_view, rows_view, left_view, arity_left, path_view, paths_view}
 use Rattle.decision_tree.specs.declared.split.Matrix.{Matrix}
 use Rattle.decision_tree.specs.declared.split.Chain.{Chain}
 use Rattle.decision_tree.specs.declared.split.Found.{Found}
 use Rattle.decision_tree.specs.declared.split.Look.{Look}
 use Rattle.decision_tree.specs.declared.split.Look.TheVariants as look
 use Rattle.decision_tree.specs.declared.path.Path.{Path}
+use Rattle.decision_tree.specs.declared.row.Wanted.{Wanted}
 use Rattle.decision_tree.specs.declared.choice.Task.{Task}
 use Rattle.decision_tree.specs.declared.choice.Task.TheVariants as task
 
@@ -31,18 +32,22 @@ found_view subject paths f = record {
 
 -- ---- what is to be done
 
+-- of rows, with no more tests than they ask for
+abbrev pub rows_js : List Js → List matrix.Row → Js
+rows_js paths rows = tree (rows_size rows) paths rows
+
 abbrev pub matrix_js : ℕ → Matrix → Js
-matrix_js subject m = tree m.bound (paths_view subject m.paths.items) (rows_view m.rows.items)
+matrix_js subject m = rows_js (paths_view subject m.paths.items) (rows_view m.rows.items)
 
 -- by the column that is tested
-abbrev pub split_tree : ℕ → List Js → List matrix.Row → Column → Js
-split_tree bound paths rows c =
+abbrev pub split_tree : List Js → List matrix.Row → Column → Js
+split_tree paths rows c =
     let ts = tests_in c.test c.number [] rows in
-    chain (λ t. tree (bound - 1) (split_path (arity_of t) c.number paths) (narrow (left_by t) c.number rows))
-    c.path (is_whole c.test ts) (tree (bound - 1) (split_path 0 c.number paths) (narrow left_over c.number rows)) ts
+    chain (λ t. rows_js (split_path (arity_of t) c.number paths) (narrow (left_by t) c.number rows))
+    c.path (is_whole c.test ts) (rows_js (split_path 0 c.number paths) (narrow left_over c.number rows)) ts
 
 abbrev pub split_js : ℕ → Matrix → Column → Js
-split_js subject m c = split_tree m.bound (paths_view subject m.paths.items) (rows_view m.rows.items) c
+split_js subject m c = split_tree (paths_view subject m.paths.items) (rows_view m.rows.items) c
 
 abbrev pub look_js : ℕ → Matrix → Look → Js
 look_js subject m (look.Number n) = JInt (pos n)
@@ -51,14 +56,20 @@ look_js subject m (look.Split f) = split_js subject m (found_view subject m.path
 -- where the test holds
 abbrev pub chosen_js : ℕ → Chain → matrix.Test → Js
 chosen_js subject c t =
-    tree c.bound (split_path (arity_of t) c.column (paths_view subject c.paths.items))
+    rows_js (split_path (arity_of t) c.column (paths_view subject c.paths.items))
     (narrow (left_by t) c.column (rows_view c.rows.items))
 
 -- where no test does
 abbrev pub rest_js : ℕ → Chain → Js
 rest_js subject c =
-    tree c.bound (split_path 0 c.column (paths_view subject c.paths.items))
+    rows_js (split_path 0 c.column (paths_view subject c.paths.items))
     (narrow left_over c.column (rows_view c.rows.items))
+
+-- by what is wanted
+abbrev pub narrowed_js : ℕ → Chain → Wanted → Js
+narrowed_js subject c w =
+    rows_js (split_path (arity_left w) c.column (paths_view subject c.paths.items))
+    (narrow (left_view w) c.column (rows_view c.rows.items))
 
 abbrev pub chain_js : ℕ → Chain → Js
 chain_js subject c =
@@ -80,15 +91,14 @@ abbrev pub all_done : ℕ → List Task → List Tree → List Tree
 all_done subject [] ts = ts
 all_done subject (t ∷ tasks) ts = done subject t (all_done subject tasks ts)
 
--- a column is split only where one test at least may be made
+-- a column that is split has a path
 abbrev pub CanSplit : Matrix → Look → Type 0
 CanSplit m (look.Number n) = ⊤
-CanSplit m (look.Split f) = (0 < m.bound) × (f.number < length m.paths.items)
+CanSplit m (look.Split f) = f.number < length m.paths.items
 
 -- the chain after its next test
 abbrev pub advanced : Chain → Chain
 advanced c = record {
-  bound = c.bound;
   paths = c.paths;
   rows = c.rows;
   column = c.column;

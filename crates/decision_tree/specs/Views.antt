@@ -1,11 +1,11 @@
 -- What the parts, tests, rows and paths of the program are.
-use Rattle.std.specs.Prelude.{ℕ, zero, suc, ◌+◌, List, [], ◌∷◌, map, replicate, Option, Some, None}
+use Rattle.std.specs.Prelude.{ℕ, List, [], ◌∷◌, map, replicate, Option}
 use Rattle.elm_canon.specs.Unions.{TupleUnion, ListUnion, tuple_alternative, nil_alternative, cons_alternative}
 use Rattle.elm_canon.specs.Tree as plain
 use Rattle.elm_canon.specs.View.{pattern_view, items_before, nil_pattern}
 use Rattle.js_tree.specs.Tree.{Js, JVar, Made}
 use Rattle.js_emit.specs.Matrix as matrix
-use Rattle.js_emit.specs.Matrix.{left_by, left_over}
+use Rattle.js_emit.specs.Matrix.{arity_of, left_by, left_over}
 use Rattle.emit_patterns.specs.Before.{path_js}
 use Rattle.decision_tree.specs.declared.part.Part.{Part}
 use Rattle.decision_tree.specs.declared.part.Part.TheVariants as part
@@ -68,6 +68,11 @@ rows_view rows = map row_view rows
 abbrev pub left_view : Wanted → matrix.Ask → Option (List plain.Pattern)
 left_view (wanted.Holds t) = left_by (test_view t)
 left_view wanted.Fails = left_over
+
+-- and how many parts
+abbrev pub arity_left : Wanted → ℕ
+arity_left (wanted.Holds t) = arity_of (test_view t)
+arity_left wanted.Fails = 0
 
 -- ---- paths
 

@@ -1,22 +1,21 @@
 //! The number of the branch that a value takes, as an expression.
 
-ghost use Rattle.std.specs.Prelude.{◌≡◌, ◌<◌, ◌+◌, ℕ, length, pos, List, [], ◌∷◌, ◌++◌, map, IfOk, OnOk};
-ghost use Rattle.elm_canon.specs.Tree.{branches_of, patterns_of};
-ghost use Rattle.elm_canon.specs.View.{pattern_view, branch_view};
+ghost use Rattle.std.specs.Prelude.{◌≡◌, ◌<◌, ℕ, length, pos, [], ◌∷◌, ◌++◌, map, IfOk, OnOk};
+ghost use Rattle.elm_canon.specs.Tree.{branches_of};
+ghost use Rattle.elm_canon.specs.View.{branch_view};
 ghost use Rattle.js_tree.specs.Tree.{JInt, Made};
-ghost use Rattle.js_tree.specs.Postorder.{Tree, Expression, trees_of};
-ghost use Rattle.js_emit.specs.Matrix as matrix;
-ghost use Rattle.js_emit.specs.Matrix.{rows_from, rows_size};
+ghost use Rattle.js_tree.specs.Postorder.{Expression, trees_of};
+ghost use Rattle.js_emit.specs.Matrix.{rows_from};
 ghost use Rattle.js_emit.specs.Choice.{choice, test_js};
-ghost use Rattle.decision_tree.specs.Views.{test_view, path_view, row_view, rows_view};
+ghost use Rattle.decision_tree.specs.Views.{test_view, path_view, rows_view};
 ghost use Rattle.decision_tree.specs.Run.{matrix_js, chain_js, done, all_done, left_tasks};
 
-use crate::part::Part;
+use crate::part::{Inner, Part};
 use crate::path::root;
-use crate::row::Row;
-use crate::split::{Chain, Look, Matrix, chain_of, chosen, is_last, looked_at, rest};
+use crate::row::{Row, Wanted, add_row};
+use crate::split::{Chain, Look, Matrix, chain_of, is_last, looked_at, narrowed};
 use crate::test::{Test, push_test};
-use elm_canon::tree::{Branch, Pattern};
+use elm_canon::tree::Branch;
 use emit_patterns::bound::push_path;
 use js_tree::tree::Node;
 use js_tree::trees::Trees;
@@ -33,72 +32,21 @@ pub enum Task<'a> {
     Join,
 }
 
-/// The sum. The error means that no memory could hold so much.
-fn sum(first: usize, second: usize) -> Result<usize, AllocError>
-    ensures { IfOk result (λ n. n ≡ first + second) }
-{
-    first.checked_add(second).ok_or(AllocError)
-}
-
-/// How many tests a pattern asks for.
-#[cycle(sizing)]
-#[tactic(auto, using(elm_canon::proofs::Views::anything_pattern, elm_canon::proofs::Views::named_pattern, elm_canon::proofs::Views::as_pattern, elm_canon::proofs::Views::exact_pattern, elm_canon::proofs::Views::construct_pattern, elm_canon::proofs::Views::pattern_of_tuple, elm_canon::proofs::Views::list_pattern, elm_canon::proofs::Views::items_pattern, elm_canon::proofs::Views::fields_pattern, elm_canon::proofs::Views::located_pattern, crate::proofs::Sizes::size_items, std::proofs::lemmas::Grind::common_steps))]
-fn size(pattern: &Pattern) -> Result<usize, AllocError>
-    ensures { IfOk result (λ n. n ≡ matrix.size (pattern_view pattern.now)) }
-{
-    match pattern {
-        Pattern::Anything | Pattern::Named(_) | Pattern::Fields(_) => Ok(0),
-        Pattern::As(pattern, _) | Pattern::Located(_, pattern) => size(pattern),
-        Pattern::Exactly(_) => Ok(1),
-        Pattern::Construct(_, _, parts) | Pattern::Tuple(parts) => sum(1, sizes(parts)?),
-        Pattern::List(items) => sum(sum(items.len(), sizes(items)?)?, 1),
-        Pattern::Items(items, rest) => sum(sum(items.len(), sizes(items)?)?, size(rest)?),
-    }
-}
-
-/// How many tests the patterns ask for.
-#[cycle(sizing)]
-fn sizes(patterns: &[Pattern]) -> Result<usize, AllocError>
-    ensures { IfOk result (λ n. n ≡ matrix.sizes (patterns_of (map pattern_view patterns.now))) }
-{
-    let mut total = 0;
-    for pattern in patterns {
-        total = sum(total, size(pattern)?)?;
-    }
-    Ok(total)
-}
-
-/// How many tests the branches ask for.
+/// Adds a row for each branch.
 #[tactic(auto, using(elm_canon::proofs::Views::branch))]
-fn branches_size(branches: &[Branch]) -> Result<usize, AllocError>
-    ensures { IfOk result (λ n. n ≡ rows_size (rows_from 0 (branches_of (map branch_view branches.now)))) }
+fn add_rows<'a>(
+    alloc: Global,
+    out: &mut Vec<Row<'a>>,
+    branches: &'a [Branch],
+) -> Result<(), AllocError>
+    ensures { OnOk result (rows_view out.new.items
+        ≡ rows_view out.old.items ++ rows_from 0 (branches_of (map branch_view branches.now))) }
 {
-    let mut total = 0;
     for number in 0..branches.len() {
-        total = sum(total, size(&branches[number].pattern)?)?;
+        let part = Part::Whole(&branches[number].pattern);
+        add_row(alloc, out, number, &[part], Inner::Nothing, &[])?;
     }
-    Ok(total)
-}
-
-/// The row of a branch.
-fn row_of<'a>(alloc: Global, pattern: &'a Pattern, branch: usize) -> Result<Row<'a>, AllocError>
-    ensures { IfOk result (λ r. row_view r ≡ record { patterns = pattern_view pattern.now ∷ []; branch = branch }) }
-{
-    let mut parts = Vec::with_capacity(alloc, 1)?;
-    parts.push(Part::Whole(pattern))?;
-    Ok(Row { parts, branch })
-}
-
-/// A row for each branch.
-#[tactic(auto, using(elm_canon::proofs::Views::branch))]
-fn rows_of<'a>(alloc: Global, branches: &'a [Branch]) -> Result<Vec<Row<'a>>, AllocError>
-    ensures { IfOk result (λ out. rows_view out.items ≡ rows_from 0 (branches_of (map branch_view branches.now))) }
-{
-    let mut rows = Vec::with_capacity(alloc, branches.len())?;
-    for number in 0..branches.len() {
-        rows.push(row_of(alloc, &branches[number].pattern, number)?)?;
-    }
-    Ok(rows)
+    Ok(())
 }
 
 /// Adds a task, which is done before the others.
@@ -131,10 +79,7 @@ fn choose<'a>(
 {
     match looked_at(&matrix) {
         Look::Number(number) => push_number(trees, number),
-        Look::Split(found) => {
-            let chain = chain_of(alloc, matrix, found)?;
-            add(work, Task::Try(chain))
-        }
+        Look::Split(found) => add(work, Task::Try(chain_of(alloc, matrix, found)?)),
     }
 }
 
@@ -181,14 +126,16 @@ fn try_next<'a>(
         ≡ all_done subject work.old.items (Expression (chain_js subject chain.entry) ∷ trees_of trees.old)) }
 {
     if chain.tests.len() <= chain.next {
-        let rest = rest(alloc, &chain)?;
-        return add(work, Task::Choose(rest));
+        return add(work, Task::Choose(narrowed(alloc, &chain, Wanted::Fails)?));
     }
     let test = chain.tests[chain.next];
-    let chosen = chosen(alloc, &chain, test)?;
     if is_last(&chain) {
-        return add(work, Task::Choose(chosen));
+        return add(
+            work,
+            Task::Choose(narrowed(alloc, &chain, Wanted::Holds(test))?),
+        );
     }
+    let chosen = narrowed(alloc, &chain, Wanted::Holds(test))?;
     push_next(alloc, trees, subject, &chain, test)?;
     leave(work, chain, chosen)
 }
@@ -230,18 +177,16 @@ fn perform_all<'a>(
     Err(AllocError)
 }
 
-/// The task of the whole.
-fn first_task<'a>(alloc: Global, branches: &'a [Branch]) -> Result<Task<'a>, AllocError>
-    ensures { IfOk result (λ t. (subject : ℕ) (ts : List Tree) → done subject t ts
-        ≡ Expression (choice (Made subject) (branches_of (map branch_view branches.now))) ∷ ts) }
+/// The rows of the whole.
+fn whole<'a>(alloc: Global, branches: &'a [Branch]) -> Result<Matrix<'a>, AllocError>
+    ensures { IfOk result (λ m. (subject : ℕ) → matrix_js subject m
+        ≡ choice (Made subject) (branches_of (map branch_view branches.now))) }
 {
-    let mut paths = Vec::with_capacity(alloc, 1)?;
+    let mut paths = Vec::new(alloc);
     paths.push(root(alloc)?)?;
-    Ok(Task::Choose(Matrix {
-        bound: branches_size(branches)?,
-        paths,
-        rows: rows_of(alloc, branches)?,
-    }))
+    let mut rows = Vec::new(alloc);
+    add_rows(alloc, &mut rows, branches)?;
+    Ok(Matrix { paths, rows })
 }
 
 /// Adds the number of the branch that a value takes, from 0 on. The value has the made name `subject`, and takes the
@@ -255,7 +200,7 @@ pub fn push_choice(
     ensures { OnOk result (trees_of trees.new
         ≡ Expression (choice (Made subject) (branches_of (map branch_view branches.now))) ∷ trees_of trees.old) }
 {
-    let mut work = Vec::with_capacity(alloc, 16)?;
-    add(&mut work, first_task(alloc, branches)?)?;
+    let mut work = Vec::new(alloc);
+    choose(alloc, trees, &mut work, whole(alloc, branches)?)?;
     perform_all(alloc, trees, subject, work)
 }

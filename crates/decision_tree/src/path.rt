@@ -39,8 +39,7 @@ fn part(alloc: Global, path: &Path, number: usize) -> Result<Path, AllocError>
     ensures { IfOk result (λ p. (subject : ℕ)
         → path_view subject p ≡ JProperty (path_view subject path.now) (part_name number)) }
 {
-    let mut numbers = Vec::with_capacity(alloc, path.numbers.len())?;
-    numbers.extend_from_slice(&path.numbers)?;
+    let mut numbers = Vec::from_slice(alloc, &path.numbers)?;
     numbers.push(number)?;
     Ok(Path {
         numbers: Arc::new(alloc, numbers)?,
@@ -74,23 +73,21 @@ fn add_parts(
     Ok(())
 }
 
-/// The paths with those of so many parts in the place of the column's.
+/// Adds the paths with those of so many parts in the place of the column's.
 pub fn split_paths(
     alloc: Global,
+    out: &mut Vec<Path>,
     paths: &[Path],
     column: usize,
     arity: usize,
-) -> Result<Vec<Path>, AllocError>
-    ensures { IfOk result (λ out. (subject : ℕ) → paths_view subject out.items
-        ≡ split_path arity column (paths_view subject paths.now)) }
+) -> Result<(), AllocError>
+    ensures { OnOk result ((subject : ℕ) → paths_view subject out.new.items
+        ≡ paths_view subject out.old.items ++ split_path arity column (paths_view subject paths.now)) }
 {
-    let mut out = Vec::with_capacity(alloc, paths.len())?;
     if paths.len() <= column {
-        add_paths(&mut out, paths)?;
-        return Ok(out);
+        return add_paths(out, paths);
     }
-    add_paths(&mut out, &paths[..column])?;
-    add_parts(alloc, &mut out, &paths[column], arity)?;
-    add_paths(&mut out, &paths[column + 1..])?;
-    Ok(out)
+    add_paths(out, &paths[..column])?;
+    add_parts(alloc, out, &paths[column], arity)?;
+    add_paths(out, &paths[column + 1..])
 }

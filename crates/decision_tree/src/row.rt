@@ -1,8 +1,7 @@
 //! Rows of patterns, and what is left of them.
 
-ghost use Rattle.std.specs.Prelude.{◌≡◌, ◌<◌, ◌++◌, take, drop, suc, length, IfOk, OnOk, option_map};
-ghost use Rattle.js_emit.specs.Matrix as matrix;
-ghost use Rattle.js_emit.specs.Matrix.{narrowed, narrow, ask_at};
+ghost use Rattle.std.specs.Prelude.{◌≡◌, ◌∷◌, ◌++◌, [], OnOk, option_map};
+ghost use Rattle.js_emit.specs.Matrix.{keep, narrowed, narrow, ask_at};
 ghost use Rattle.decision_tree.specs.Views.{part_view, parts_view, inner_view, ask_view, row_of, row_view, rows_view};
 ghost use Rattle.decision_tree.specs.Views.{left_view};
 
@@ -62,6 +61,40 @@ fn add_inner<'a>(out: &mut Vec<Part<'a>>, inner: Inner<'a>) -> Result<(), AllocE
     Ok(())
 }
 
+/// Adds parts, those that a test leaves, and other parts.
+fn add_joined<'a>(
+    out: &mut Vec<Part<'a>>,
+    before: &[Part<'a>],
+    inner: Inner<'a>,
+    after: &[Part<'a>],
+) -> Result<(), AllocError>
+    ensures { OnOk result (parts_view out.new.items ≡ parts_view out.old.items
+        ++ (parts_view before.now ++ (inner_view inner.entry ++ parts_view after.now))) }
+{
+    out.extend_from_slice(before)?;
+    add_inner(out, inner)?;
+    out.extend_from_slice(after)?;
+    Ok(())
+}
+
+/// Adds a row of parts, those that a test leaves, and other parts.
+pub fn add_row<'a>(
+    alloc: Global,
+    out: &mut Vec<Row<'a>>,
+    branch: usize,
+    before: &[Part<'a>],
+    inner: Inner<'a>,
+    after: &[Part<'a>],
+) -> Result<(), AllocError>
+    ensures { OnOk result (rows_view out.new.items ≡ rows_view out.old.items
+        ++ row_of branch (parts_view before.now ++ (inner_view inner.entry ++ parts_view after.now)) ∷ []) }
+{
+    let mut parts = Vec::new(alloc);
+    add_joined(&mut parts, before, inner, after)?;
+    out.push(Row { parts, branch })?;
+    Ok(())
+}
+
 /// What an ask leaves where that is wanted, if it does.
 fn left<'a>(wanted: Wanted<'a>, ask: Ask<'a>) -> Option<Inner<'a>>
     ensures { option_map inner_view result ≡ left_view wanted.entry (ask_view ask.entry) }
@@ -84,75 +117,46 @@ fn left<'a>(wanted: Wanted<'a>, ask: Ask<'a>) -> Option<Inner<'a>>
     }
 }
 
-/// The row with those parts in the place of the column's.
-fn replaced<'a>(
+/// Adds what is left of the row, if anything is.
+fn add_left<'a>(
     alloc: Global,
-    row: &Row<'a>,
-    column: usize,
-    inner: Inner<'a>,
-) -> Result<Row<'a>, AllocError>
-    requires within { column < length row.now.parts.items }
-    ensures { IfOk result (λ r. row_view r ≡ row_of row.now.branch
-        (take column (parts_view row.now.parts.items) ++ (inner_view inner.entry
-        ++ drop (suc column) (parts_view row.now.parts.items)))) }
-{
-    let mut parts = Vec::with_capacity(alloc, row.parts.len())?;
-    parts.extend_from_slice(&row.parts[..column])?;
-    add_inner(&mut parts, inner)?;
-    parts.extend_from_slice(&row.parts[column + 1..])?;
-    Ok(Row {
-        parts,
-        branch: row.branch,
-    })
-}
-
-/// The row once more.
-fn copied<'a>(alloc: Global, row: &Row<'a>) -> Result<Row<'a>, AllocError>
-    ensures { IfOk result (λ r. row_view r ≡ row_view row.now) }
-{
-    let mut parts = Vec::with_capacity(alloc, row.parts.len())?;
-    parts.extend_from_slice(&row.parts)?;
-    Ok(Row {
-        parts,
-        branch: row.branch,
-    })
-}
-
-/// What is left of the row, if anything is.
-#[tactic(auto, using(crate::proofs::Narrowing::narrowed_here, crate::proofs::Narrowing::narrowed_none))]
-fn narrow_row<'a>(
-    alloc: Global,
+    out: &mut Vec<Row<'a>>,
     wanted: Wanted<'a>,
     column: usize,
     row: &Row<'a>,
-) -> Result<Option<Row<'a>>, AllocError>
-    ensures { IfOk result (λ r. option_map row_view r
-        ≡ option_map (row_of row.now.branch) (narrowed (left_view wanted.entry) column (row_view row.now).patterns)) }
+) -> Result<(), AllocError>
+    ensures { OnOk result (rows_view out.new.items ≡ rows_view out.old.items
+        ++ keep (narrowed (left_view wanted.entry) column (row_view row.now).patterns) row.now.branch []) }
 {
     if row.parts.len() <= column {
-        return Ok(Some(copied(alloc, row)?));
+        return add_row(alloc, out, row.branch, &row.parts, Inner::Nothing, &[]);
     }
     match left(wanted, ask_part(row.parts[column])) {
-        None => Ok(None),
-        Some(inner) => Ok(Some(replaced(alloc, row, column, inner)?)),
+        None => Ok(()),
+        Some(inner) => add_row(
+            alloc,
+            out,
+            row.branch,
+            &row.parts[..column],
+            inner,
+            &row.parts[column + 1..],
+        ),
     }
 }
 
-/// What is left of the rows.
+/// Adds what is left of the rows.
 pub fn narrow<'a>(
     alloc: Global,
+    out: &mut Vec<Row<'a>>,
     wanted: Wanted<'a>,
     column: usize,
     rows: &[Row<'a>],
-) -> Result<Vec<Row<'a>>, AllocError>
-    ensures { IfOk result (λ out. rows_view out.items ≡ narrow (left_view wanted.entry) column (rows_view rows.now)) }
+) -> Result<(), AllocError>
+    ensures { OnOk result (rows_view out.new.items
+        ≡ rows_view out.old.items ++ narrow (left_view wanted.entry) column (rows_view rows.now)) }
 {
-    let mut out = Vec::new(alloc);
     for row in rows {
-        match narrow_row(alloc, wanted, column, row)? {
-            None => {}
-            Some(left) => out.push(left)?,
-        }
+        add_left(alloc, out, wanted, column, row)?;
     }
-    Ok(out)
+    Ok(())
 }

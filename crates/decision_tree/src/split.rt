@@ -3,8 +3,8 @@
 ghost use Rattle.std.specs.Prelude.{◌≡◌, ◌<◌, ◌+◌, ℕ, [], length, true, false, IfOk, IfSome, option_map};
 ghost use Rattle.js_emit.specs.Matrix as matrix;
 ghost use Rattle.js_emit.specs.Choice as spec;
-ghost use Rattle.decision_tree.specs.Views.{parts_view, test_view, tests_view, rows_view, paths_view};
-ghost use Rattle.decision_tree.specs.Run.{found_view, matrix_js, split_js, look_js, chosen_js, rest_js, chain_js};
+ghost use Rattle.decision_tree.specs.Views.{parts_view, test_view, tests_view, rows_view, paths_view, arity_left};
+ghost use Rattle.decision_tree.specs.Run.{found_view, matrix_js, split_js, look_js, narrowed_js, chain_js};
 ghost use Rattle.decision_tree.specs.Run.{CanSplit};
 
 use crate::part::{Ask, Part, ask_part};
@@ -16,8 +16,6 @@ use std::alloc::{AllocError, Global};
 /// Rows that are still possible, in order.
 #[derive(Drop)]
 pub struct Matrix<'a> {
-    /// How many tests may still be made. It is no less than the tests that the rows ask for.
-    pub bound: usize,
     /// The path of each column.
     pub paths: Vec<Path>,
     pub rows: Vec<Row<'a>>,
@@ -26,8 +24,6 @@ pub struct Matrix<'a> {
 /// Rows of which a column is tested.
 #[derive(Drop)]
 pub struct Chain<'a> {
-    /// How many tests may be made after this one.
-    pub bound: usize,
     pub paths: Vec<Path>,
     pub rows: Vec<Row<'a>>,
     pub column: usize,
@@ -101,12 +97,8 @@ pub fn looked_at<'a>(matrix: &Matrix<'a>) -> Look<'a>
     if matrix.rows.len() == 0 {
         return Look::Number(0);
     }
-    let branch = matrix.rows[0].branch;
-    if matrix.bound == 0 {
-        return Look::Number(branch);
-    }
     match first_column(&matrix.paths, &matrix.rows[0].parts) {
-        None => Look::Number(branch),
+        None => Look::Number(matrix.rows[0].branch),
         Some(found) => Look::Split(found),
     }
 }
@@ -117,8 +109,7 @@ pub fn chain_of<'a>(
     matrix: Matrix<'a>,
     found: Found<'a>,
 ) -> Result<Chain<'a>, AllocError>
-    requires some { 0 < matrix.bound }
-    requires inside { found.number < length matrix.paths.items }
+    requires { found.number < length matrix.paths.items }
     ensures { IfOk result (λ c. (subject : ℕ) → chain_js subject c
         ≡ split_js subject matrix.entry (found_view subject matrix.entry.paths.items found.entry)) }
 {
@@ -126,7 +117,6 @@ pub fn chain_of<'a>(
     let is_whole = is_whole(found.test, &tests);
     let path = copied(&matrix.paths[found.number])?;
     Ok(Chain {
-        bound: matrix.bound - 1,
         paths: matrix.paths,
         rows: matrix.rows,
         column: found.number,
@@ -137,31 +127,35 @@ pub fn chain_of<'a>(
     })
 }
 
-/// The rows where the test holds.
-pub fn chosen<'a>(
-    alloc: Global,
-    chain: &Chain<'a>,
-    test: Test<'a>,
-) -> Result<Matrix<'a>, AllocError>
-    ensures { IfOk result (λ m. (subject : ℕ) → matrix_js subject m
-        ≡ chosen_js subject chain.now (test_view test.entry)) }
+/// How many parts are left.
+fn parts_left(wanted: Wanted<'_>) -> usize
+    ensures { result ≡ arity_left wanted.entry }
 {
-    Ok(Matrix {
-        bound: chain.bound,
-        paths: split_paths(alloc, &chain.paths, chain.column, arity(test))?,
-        rows: narrow(alloc, Wanted::Holds(test), chain.column, &chain.rows)?,
-    })
+    match wanted {
+        Wanted::Holds(test) => arity(test),
+        Wanted::Fails => 0,
+    }
 }
 
-/// The rows where no test of the column holds.
-pub fn rest<'a>(alloc: Global, chain: &Chain<'a>) -> Result<Matrix<'a>, AllocError>
-    ensures { IfOk result (λ m. (subject : ℕ) → matrix_js subject m ≡ rest_js subject chain.now) }
+/// The rows where the test holds, or where no test of the column does.
+pub fn narrowed<'a>(
+    alloc: Global,
+    chain: &Chain<'a>,
+    wanted: Wanted<'a>,
+) -> Result<Matrix<'a>, AllocError>
+    ensures { IfOk result (λ m. (subject : ℕ) → matrix_js subject m ≡ narrowed_js subject chain.now wanted.entry) }
 {
-    Ok(Matrix {
-        bound: chain.bound,
-        paths: split_paths(alloc, &chain.paths, chain.column, 0)?,
-        rows: narrow(alloc, Wanted::Fails, chain.column, &chain.rows)?,
-    })
+    let mut paths = Vec::new(alloc);
+    split_paths(
+        alloc,
+        &mut paths,
+        &chain.paths,
+        chain.column,
+        parts_left(wanted),
+    )?;
+    let mut rows = Vec::new(alloc);
+    narrow(alloc, &mut rows, wanted, chain.column, &chain.rows)?;
+    Ok(Matrix { paths, rows })
 }
 
 /// Whether the next test is the last, and is not made, since no other value is possible.

@@ -284,8 +284,7 @@ fn push_tag(alloc: Global, trees: &mut Trees, tag: Tag) -> Result<(), AllocError
 {
     match tag {
         Tag::Number(number) => {
-            let mut name = Vec::with_capacity(alloc, 1)?;
-            name.push(36u16)?;
+            let name = Vec::from_slice(alloc, &[36u16])?;
             trees.push(Node::Property(Units::from_vec(name)))?;
             trees.push(Node::Int(number))?;
         }

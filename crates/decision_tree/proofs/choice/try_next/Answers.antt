@@ -1,4 +1,4 @@
-use Rattle.std.proofs.Common.{◌≡◌, ◌<◌, ◌∷◌, length, ap, ◌∙◌, sym, arith}
+use Rattle.std.proofs.Common.{◌<◌, ◌∷◌, length, ap, ◌∙◌, sym, arith}
 use Rattle.std.proofs.lemmas.Grind.{common_steps}
 use Rattle.std.proofs.lemmas.Result.{on_ok_weaker}
 use Rattle.js_tree.specs.Tree.{JConditional}
@@ -19,9 +19,9 @@ returns-then-len-chain c =
     on_ok_weaker c.add.result
     (λ e.
     ap (λ ws. all_done subject ws ts) e
-    ∙ (done_push subject work (task.Choose c.in_ok-rest.rest) ts
+    ∙ (done_push subject work (task.Choose c.in_ok-narrowed.field-0) ts
     ∙ ap (λ x. all_done subject work (Expression x ∷ ts))
-    (c.in_ok-rest.ensures subject ∙ sym (at_end subject c.args.chain (grind (arith, common_steps))))))
+    (c.in_ok-narrowed.ensures subject ∙ sym (at_end subject c.args.chain (grind (arith, common_steps))))))
     c.add.ensures
 
 pub returns-then-is_last : goal.returns-then-is_last
@@ -35,9 +35,9 @@ returns-then-is_last c =
     on_ok_weaker c.add-then-is_last.result
     (λ e.
     ap (λ ws. all_done subject ws ts) e
-    ∙ (done_push subject work (task.Choose c.in_ok-chosen.chosen) ts
+    ∙ (done_push subject work (task.Choose c.in_ok-narrowed-2.field-0) ts
     ∙ ap (λ x. all_done subject work (Expression x ∷ ts))
-    (c.in_ok-chosen.ensures subject
+    (c.in_ok-narrowed-2.ensures subject
     ∙ sym (at_last subject c.args.chain test inside (sym c.index-test.ensures) last.0 last.1))))
     c.add-then-is_last.ensures
 
@@ -59,5 +59,6 @@ returns c =
     (ap (all_done subject after) c.in_ok-push_next.ensures
     ∙ ap (λ x. Expression x ∷ ts)
     (ap (λ x. JConditional tested x (chain_js subject (advanced chain))) (c.in_ok-chosen.ensures subject)
-    ∙ sym (at_next subject chain test inside (sym c.index-test.ensures) (c.is_last.ensures.other c.if-is_last.false))))))
+    ∙ sym (at_next subject chain test inside (sym c.index-test.ensures)
+    (c.is_last.ensures.other c.if-is_last.false))))))
     c.leave.ensures

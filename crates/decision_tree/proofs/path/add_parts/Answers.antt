@@ -1,4 +1,4 @@
-use Rattle.std.proofs.Common.{sym, arith, ◌+◌, ◌-◌, ◌++◌}
+use Rattle.std.proofs.Common.{arith, ◌+◌, ◌-◌, ◌++◌}
 use Rattle.js_tree.specs.Tree.{JProperty}
 use Rattle.js_emit.specs.Names.{part_name}
 use Rattle.js_emit.specs.Choice.{part_paths}

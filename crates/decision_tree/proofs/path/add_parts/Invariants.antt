@@ -1,4 +1,4 @@
-use Rattle.std.proofs.Common.{◌≡◌, ℕ, ◌+◌, ◌-◌, ◌++◌}
+use Rattle.std.proofs.Common.{◌≡◌, ℕ, ◌-◌, ◌++◌}
 use Rattle.js_emit.specs.Choice.{part_paths}
 use Rattle.decision_tree.specs.Views.{path_view, paths_view}
 use Rattle.decision_tree.proofs.path.add_parts.Given as goal

@@ -1,4 +1,4 @@
-use Rattle.std.proofs.Common.{◌≡◌, ◌-◌, ap, ◌∙◌, sym, pos, []}
+use Rattle.std.proofs.Common.{◌≡◌, ap, ◌∙◌, sym, pos, []}
 use Rattle.js_tree.specs.Tree.{JInt, JVar, Made}
 use Rattle.js_emit.specs.Matrix.{is_whole, tests_in}
 use Rattle.emit_patterns.specs.Before.{path_js}
@@ -12,7 +12,6 @@ use Rattle.decision_tree.proofs.split.chain_of.Goals as goal
 pub returns : goal.returns
 returns c = λ subject.
     let made : Chain = record {
-      bound = c.args.matrix.bound - 1;
       paths = c.args.matrix.paths;
       rows = c.args.matrix.rows;
       column = c.args.found.number;
@@ -28,7 +27,7 @@ returns c = λ subject.
     chain_same (chosen_js subject made) (rest_js subject made) _ _ _ _ _ _
     (ap (λ ns. path_js (JVar (Made subject)) ns.items) c.in_ok-path.ensures
     ∙ sym (map_at (path_view subject) c.args.matrix.paths.items c.args.found.number c.index.result.now (JInt (pos 0))
-    c.requires.inside (sym c.index.ensures)))
+    c.requires (sym c.index.ensures)))
     (c.is_whole-is_whole.ensures
     ∙ (ap (λ zs. is_whole (test_view c.args.found.test) (tests_view zs)) c.deref-2.ensures.value
     ∙ ap (is_whole (test_view c.args.found.test)) tests))

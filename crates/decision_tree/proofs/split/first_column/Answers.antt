@@ -1,4 +1,4 @@
-use Rattle.std.proofs.Common.{◌≡◌, ap, ◌∙◌, sym, arith, pos, get_or}
+use Rattle.std.proofs.Common.{ap, ◌∙◌, sym, arith, pos, get_or}
 use Rattle.std.proofs.lemmas.List.{length-map, drop_all}
 use Rattle.js_tree.specs.Tree.{JInt}
 use Rattle.js_emit.specs.Choice.{first_column}
@@ -28,7 +28,8 @@ returns-in-First-clause-found c = λ subject.
     (test_view c.in-First.test) (inner_view c.in-First.field-1)
     (omega (arith, paths-long)) (omega (arith, parts-long, c.if-parts-number.false))
     (at_self paths i (JInt (pos 0)) (omega (arith, paths-long)))
-    (map_at part_view c.args.parts.now i x (part_view x) (omega (arith, c.if-parts-number.false)) (sym c.index-parts-number.is))
+    (map_at part_view c.args.parts.now i x (part_view x) (omega (arith, c.if-parts-number.false))
+    (sym c.index-parts-number.is))
     (sym (ap ask_view c.in-First.is) ∙ c.ask_part.ensures) (c.loop-number.invariant subject))
 
 pub loop-number-preserved : goal.loop-number-preserved
@@ -42,7 +43,8 @@ loop-number-preserved c = λ subject.
     column_next paths ps i (get_or paths i (JInt (pos 0))) (part_view x) (first_column paths ps)
     (omega (arith, paths-long)) (omega (arith, parts-long, c.if-parts-number.false))
     (at_self paths i (JInt (pos 0)) (omega (arith, paths-long)))
-    (map_at part_view c.args.parts.now i x (part_view x) (omega (arith, c.if-parts-number.false)) (sym c.index-parts-number.is))
+    (map_at part_view c.args.parts.now i x (part_view x) (omega (arith, c.if-parts-number.false))
+    (sym c.index-parts-number.is))
     (sym (ap ask_view c.in-Nothing.is) ∙ c.ask_part.ensures) (c.loop-number.invariant subject)
 
 pub returns-clause-found : goal.returns-clause-found
@@ -51,4 +53,5 @@ returns-clause-found c = λ subject.
     let ps = parts_view c.args.parts.now in
     let i = c.loop-number.number in
     sym (column_none paths ps i (first_column paths ps)
-    (drop_all i paths (omega (arith, length-map c.args.paths.now (path_view subject)))) (c.loop-number.invariant subject))
+    (drop_all i paths (omega (arith, length-map c.args.paths.now (path_view subject))))
+    (c.loop-number.invariant subject))

@@ -1,4 +1,4 @@
-use Rattle.std.proofs.Common.{◌≡◌, ◌<◌, ap, ◌∙◌, sym, arith, length, Some}
+use Rattle.std.proofs.Common.{◌<◌, ap, ◌∙◌, sym, arith, length, Some}
 use Rattle.js_emit.specs.Choice.{first_column}
 use Rattle.std.proofs.lemmas.Grind.{common_steps}
 use Rattle.std.proofs.lemmas.List.{length-map}
@@ -11,12 +11,12 @@ use Rattle.decision_tree.proofs.split.looked_at.Goals as goal
 pub returns-in-Some-clause-look : goal.returns-in-Some-clause-look
 returns-in-Some-clause-look c = λ subject.
     let m = c.args.matrix.now in
-    let row = c.index-2.result.now in
+    let row = c.index.result.now in
     let long : 0 < length m.rows.items = grind (arith, common_steps) in
-    look_split m.bound (paths_view subject m.paths.items) (rows_view m.rows.items) (row_view row)
-    (found_view subject m.paths.items c.in-Some.found) (omega (arith, c.if-matrix-eq0.false))
+    look_split (paths_view subject m.paths.items) (rows_view m.rows.items) (row_view row)
+    (found_view subject m.paths.items c.in-Some.found)
     (omega (arith, long, length-map m.rows.items row_view))
-    (map_at row_view m.rows.items 0 row (row_view row) long (sym c.index-2.ensures))
+    (map_at row_view m.rows.items 0 row (row_view row) long (sym c.index.ensures))
     (sym (ap (λ zs. first_column (paths_view subject zs) (parts_view row.parts.items)) c.deref.ensures.value)
     ∙ (sym (ap (λ zs. first_column (paths_view subject c.deref.result.now) (parts_view zs)) c.deref-2.ensures.value)
     ∙ (sym (c.in-Some.ensures.found subject)
