@@ -1,0 +1,6 @@
+-- types at the front of nodes
+pub mod Front
+-- parts and fields, one after the other
+pub mod Parts
+-- how many types are still to come
+pub mod Lasting

@@ -1,0 +1,7 @@
+//! What the type of a program's `main` says.
+#![tactic(auto)]
+
+pub mod entry;
+pub mod laws;
+mod part;
+mod payload;

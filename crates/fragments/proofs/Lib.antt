@@ -1,0 +1,2 @@
+-- names of modules among names
+pub mod Naming

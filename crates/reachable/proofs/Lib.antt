@@ -1,0 +1,2 @@
+-- walks, step by step
+pub mod Walking

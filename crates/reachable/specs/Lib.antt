@@ -1,0 +1,2 @@
+-- a walk along uses
+pub mod Walk
