@@ -1,10 +1,11 @@
 -- Lists and filters, one item after the other.
 use Rattle.std.proofs.Common.{◌≡◌, ℕ, ◌+◌, ◌<◌, List, [], ◌∷◌, ◌++◌, Bool, ◌||◌, length, map, take, get_or, sym, ap}
-use Rattle.std.proofs.Common.{◌∙◌}
+use Rattle.std.proofs.Common.{◌∙◌, append-nil}
 use Rattle.std.proofs.Math.Bool.{or-false}
 use Rattle.std.proofs.lemmas.List.{take_more, map-append}
 use Rattle.std.proofs.lemmas.List.Folds.{list_any-append}
-use Rattle.std.specs.List.{list_any}
+use Rattle.std.specs.List.{list_any, flat_map}
+use Rattle.std.proofs.lemmas.Grind.{flat_map-append}
 use Rattle.canon_env.specs.Imports.{These, names_value, names_type, opens_type}
 use Rattle.canon_env.specs.Filter.{Filters, FiltersMore}
 use Rattle.canon_env.specs.declared.import.Exposed.{Exposed}
@@ -40,3 +41,10 @@ filters_next old new es e h more = record {
   types = λ x. more.types x ∙ ap (λ b. b || names_type x e) (h.types x) ∙ any_next (names_type x) es e;
   makers = λ x. more.makers x ∙ ap (λ b. b || opens_type x e) (h.makers x) ∙ any_next (opens_type x) es e;
 }
+
+-- one item more, of which g makes what f makes a list of
+pub flat_next : {X Y Z : Type 0} → (f : Y → List Z) (g : X → Y) (xs : List X) (i : ℕ) (x : X) → i < length xs →
+    x ≡ get_or xs i x → flat_map f (map g (take (i + 1) xs)) ≡ flat_map f (map g (take i xs)) ++ f (g x)
+flat_next f g xs i x lt is =
+    ap (flat_map f) (map_next g xs i x lt is) ∙ flat_map-append f (map g (take i xs)) (g x ∷ [])
+    ∙ ap (λ l. flat_map f (map g (take i xs)) ++ l) (append-nil (f (g x)))

@@ -4,7 +4,7 @@ ghost use Rattle.std.specs.Prelude.{◌≡◌, [], map, IfOk, OnOk};
 ghost use Rattle.canon_env.specs.Found.{find, look, found_by};
 ghost use Rattle.canon_env.specs.Space.{found_view};
 ghost use Rattle.canon_env.specs.Shown.{shown_view, type_meaning_view, maker_meaning_view};
-ghost use Rattle.canon_env.specs.Imports.{Exposing, Everything};
+ghost use Rattle.canon_env.specs.Imports.{Exposing, Everything, exposing_view};
 ghost use Rattle.canon_env.specs.Filter.{Filters};
 ghost use Rattle.canon_env.specs.Env.{IsEnvOf, value_view, Rows, no_rows, join, shown_rows, import_rows, imported_rows};
 ghost use Rattle.canon_env.specs.Env.{own_rows, known_view, with_type};
@@ -158,6 +158,23 @@ impl Env {
         self.types.add_all(alloc, &none, home, named)
     }
 
+    /// Adds what an import exposes, without a qualifier. `none` is the qualifier of no module.
+    fn add_exposed(
+        &mut self,
+        alloc: Global,
+        none: &Name,
+        known: &Known<'_>,
+    ) -> Result<(), AllocError>
+        requires { none.now ≡ [] }
+        ensures { OnOk result ((rows : Rows) → IsEnvOf self.old rows →
+            IsEnvOf self.new (join rows (shown_rows [] known.now.import.now.home
+            (exposing_view known.now.import.now.exposes) (shown_view known.now.shown.now)))) }
+    {
+        let import = known.import;
+        let filter = Filter::of(alloc, &import.exposes)?;
+        self.add(alloc, none, &import.home, &filter, known.shown)
+    }
+
     /// Adds the names of an import. `all` lets everything through, and `none` is the qualifier of no module.
     fn add_import(
         &mut self,
@@ -173,9 +190,7 @@ impl Env {
     {
         let import = known.import;
         self.add(alloc, &import.qualifier, &import.home, all, known.shown)?;
-        let filter = Filter::of(alloc, &import.exposes)?;
-        self.add(alloc, none, &import.home, &filter, known.shown)?;
-        Ok(())
+        self.add_exposed(alloc, none, known)
     }
 
     /// Adds the names of imports.
@@ -197,12 +212,30 @@ impl Env {
         Ok(())
     }
 
+    /// Adds the names of imports to an environment without names.
+    fn fill(&mut self, alloc: Global, imports: &[Known<'_>]) -> Result<(), AllocError>
+        ensures { OnOk result (IsEnvOf self.old no_rows →
+            IsEnvOf self.new (imported_rows (map known_view imports.now))) }
+    {
+        let none = no_name(alloc)?;
+        self.add_imports(alloc, &Filter::open(alloc), &none, imports)
+    }
+
+    /// Adds the names that the module `home` declares, which is all of `shown`.
+    fn add_own(&mut self, alloc: Global, home: &Name, shown: &Shown) -> Result<(), AllocError>
+        ensures { OnOk result ((rows : Rows) → IsEnvOf self.old rows →
+            IsEnvOf self.new (join rows (own_rows home.now (shown_view shown.now)))) }
+    {
+        let none = no_name(alloc)?;
+        self.add(alloc, &none, home, &Filter::open(alloc), shown)
+    }
+
     /// What names mean by imports, each beside what its module shows. The error means that memory ran out.
     pub fn of(alloc: Global, imports: &[Known<'_>]) -> Result<Env, AllocError>
         ensures { IfOk result (λ env. IsEnvOf env (imported_rows (map known_view imports.now))) }
     {
         let mut env = Env::new(alloc);
-        env.add_imports(alloc, &Filter::open(alloc), &no_name(alloc)?, imports)?;
+        env.fill(alloc, imports)?;
         Ok(env)
     }
 
@@ -212,7 +245,7 @@ impl Env {
         ensures { IfOk result (λ env. IsEnvOf env (own_rows home.now (shown_view shown.now))) }
     {
         let mut env = Env::new(alloc);
-        env.add(alloc, &no_name(alloc)?, home, &Filter::open(alloc), shown)?;
+        env.add_own(alloc, home, shown)?;
         Ok(env)
     }
 }

@@ -1,15 +1,16 @@
 //! The faults of imports: an import exposes what its module does not show.
 
-ghost use Rattle.std.specs.Prelude.{◌≡◌, ◌||◌, ◌++◌, map, flat_map, IfOk, OnOk};
+ghost use Rattle.std.specs.Prelude.{◌≡◌, ◌||◌, ◌++◌, false, map, flat_map, IfOk, OnOk};
 ghost use Rattle.indexmap.specs.IndexSet.{contains};
 ghost use Rattle.elm_tree.specs.View as tree;
 ghost use Rattle.elm_tree.specs.Turns.{tokens_view};
 ghost use Rattle.elm_canon.specs.Names.{Name, same_name};
 ghost use Rattle.canon_env.specs.Shown as spec;
-ghost use Rattle.canon_env.specs.Exposing.{is_among, is_operator, operator_home, shows_union, shows_alias, shows_named};
+ghost use Rattle.canon_env.specs.Exposing.{is_among, is_operator, operator_home, shows_union, shows_alias, shows_named, shows};
 ghost use Rattle.canon_env.specs.Exposing.{entry_faults, exposing_faults, import_faults, written_view, IsNamesOf};
 
-use crate::finding::{Finding, finding_at};
+use crate::filter::insert;
+use crate::finding::{Finding, push_finding};
 use crate::import::{Exposed, exposed_name, word_name};
 use crate::shown::Shown;
 use elm_base::fault::Code;
@@ -58,63 +59,83 @@ fn is_home(home: &Name, operator: &[u8]) -> bool
     }
 }
 
-/// Adds a name to a set.
-fn insert(names: &mut IndexSet<Name>, name: &Name) -> Result<(), AllocError>
+/// Adds the names of values to a set.
+fn insert_values(names: &mut IndexSet<Name>, values: &[Name]) -> Result<(), AllocError>
     ensures { OnOk result ((x : Name) → contains same_name names.new x
-        ≡ (contains same_name names.old x || same_name x name.now)) }
+        ≡ (contains same_name names.old x || is_among x values.now)) }
 {
-    names.insert(name.clone()?)?;
+    for name in values {
+        insert(names, name)?;
+    }
     Ok(())
 }
 
-fn value_names(alloc: Global, values: &[Name]) -> Result<IndexSet<Name>, AllocError>
-    ensures { IfOk result (λ s. (x : Name) → contains same_name s x ≡ is_among x values.now) }
-{
-    let mut names = IndexSet::new(alloc);
-    for name in values {
-        insert(&mut names, name)?;
-    }
-    Ok(names)
-}
-
-fn union_names(
-    alloc: Global,
+/// Adds the names of unions to a set.
+fn insert_unions(
+    names: &mut IndexSet<Name>,
     unions: &[Arc<UnionDeclaration, Global>],
-) -> Result<IndexSet<Name>, AllocError>
-    ensures { IfOk result (λ s. (x : Name) → contains same_name s x
-        ≡ is_among x (map (λ u. u.name) (spec.unions_view unions.now))) }
+) -> Result<(), AllocError>
+    ensures { OnOk result ((x : Name) → contains same_name names.new x
+        ≡ (contains same_name names.old x || is_among x (map (λ u. u.name) (spec.unions_view unions.now)))) }
 {
-    let mut names = IndexSet::new(alloc);
     for union in unions {
-        insert(&mut names, &union.name)?;
+        insert(names, &union.name)?;
     }
-    Ok(names)
+    Ok(())
 }
 
-fn alias_names(
-    alloc: Global,
+/// Adds the names of aliases to a set.
+fn insert_aliases(
+    names: &mut IndexSet<Name>,
     aliases: &[Arc<AliasDeclaration, Global>],
-) -> Result<IndexSet<Name>, AllocError>
-    ensures { IfOk result (λ s. (x : Name) → contains same_name s x
-        ≡ is_among x (map (λ a. a.name) (spec.aliases_view aliases.now))) }
+) -> Result<(), AllocError>
+    ensures { OnOk result ((x : Name) → contains same_name names.new x
+        ≡ (contains same_name names.old x || is_among x (map (λ a. a.name) (spec.aliases_view aliases.now)))) }
 {
-    let mut names = IndexSet::new(alloc);
     for alias in aliases {
-        insert(&mut names, &alias.name)?;
+        insert(names, &alias.name)?;
     }
-    Ok(names)
+    Ok(())
 }
 
 impl ShownNames {
+    /// No names.
+    fn new(alloc: Global) -> ShownNames
+        ensures values { (x : Name) → contains same_name result.values x ≡ false }
+        ensures unions { (x : Name) → contains same_name result.unions x ≡ false }
+        ensures aliases { (x : Name) → contains same_name result.aliases x ≡ false }
+    {
+        ShownNames {
+            values: IndexSet::new(alloc),
+            unions: IndexSet::new(alloc),
+            aliases: IndexSet::new(alloc),
+        }
+    }
+
+    /// Adds the names that a module shows.
+    fn fill(&mut self, shown: &Shown) -> Result<(), AllocError>
+        ensures values { OnOk result ((x : Name) → contains same_name self.new.values x
+            ≡ (contains same_name self.old.values x || is_among x (spec.shown_view shown.now).values)) }
+        ensures unions { OnOk result ((x : Name) → contains same_name self.new.unions x
+            ≡ (contains same_name self.old.unions x || shows_union (spec.shown_view shown.now) x)) }
+        ensures aliases { OnOk result ((x : Name) → contains same_name self.new.aliases x
+            ≡ (contains same_name self.old.aliases x || shows_alias (spec.shown_view shown.now) x)) }
+    {
+        insert_values(&mut self.values, &shown.values)?;
+        insert_unions(&mut self.unions, &shown.unions)?;
+        insert_aliases(&mut self.aliases, &shown.aliases)?;
+        Ok(())
+    }
+
+    /// The names that a module shows.
     fn of(alloc: Global, shown: &Shown) -> Result<ShownNames, AllocError>
         ensures { IfOk result (λ names. IsNamesOf names (spec.shown_view shown.now)) }
     {
-        Ok(ShownNames {
-            values: value_names(alloc, &shown.values)?,
-            unions: union_names(alloc, &shown.unions)?,
-            aliases: alias_names(alloc, &shown.aliases)?,
-        })
+        let mut names = ShownNames::new(alloc);
+        names.fill(shown)?;
+        Ok(names)
     }
+
     /// Whether the module `home` shows what is exposed of it by a name, or an operator by its text.
     fn shows(&self, home: &Name, text: &[u8], exposed: &Exposed) -> bool
         ensures { (s : spec.Shown) → IsNamesOf self.now s → result
@@ -126,6 +147,21 @@ impl ShownNames {
             Exposed::OpenType(name) => self.unions.contains(name),
             Exposed::Operator(_) => is_operator(text) && is_home(home, text),
         }
+    }
+
+    /// Whether the module `home` shows what the entry exposes of it.
+    fn shows_entry(
+        &self,
+        alloc: Global,
+        tokens: &[Token<'_>],
+        home: &Name,
+        entry: &tree::Exposed,
+    ) -> Result<bool, AllocError>
+        ensures { IfOk result (λ b. (s : spec.Shown) → IsNamesOf self.now s → b
+            ≡ shows home.now s (tree.exposed_view (tokens_view tokens.now) entry.now)) }
+    {
+        let exposed = exposed_name(alloc, tokens, entry)?;
+        Ok(self.shows(home, text_at(tokens, entry.name), &exposed))
     }
 
     /// Adds the fault of one entry, if it has one.
@@ -140,11 +176,11 @@ impl ShownNames {
         ensures { OnOk result ((s : spec.Shown) → IsNamesOf self.now s → faults.new.items ≡ faults.old.items
             ++ entry_faults home.now s (tree.exposed_view (tokens_view tokens.now) entry.now)) }
     {
-        let exposed = exposed_name(alloc, tokens, entry)?;
-        if !self.shows(home, text_at(tokens, entry.name), &exposed) {
-            faults.push(finding_at(alloc, tokens, Code::ImportExposing, entry.name)?)?;
+        if self.shows_entry(alloc, tokens, home, entry)? {
+            Ok(())
+        } else {
+            push_finding(alloc, tokens, Code::ImportExposing, entry.name, faults)
         }
-        Ok(())
     }
 
     /// Adds the faults of entries.
@@ -166,6 +202,23 @@ impl ShownNames {
     }
 }
 
+/// Adds the faults of what is exposed of the module `home`.
+fn push_entries_faults(
+    alloc: Global,
+    tokens: &[Token<'_>],
+    home: &Name,
+    shown: &Shown,
+    entries: &[tree::Exposed],
+    faults: &mut Vec<Finding>,
+) -> Result<(), AllocError>
+    ensures { OnOk result (faults.new.items ≡ faults.old.items
+        ++ flat_map (entry_faults home.now (spec.shown_view shown.now))
+        (map (tree.exposed_view (tokens_view tokens.now)) entries.now)) }
+{
+    let names = ShownNames::of(alloc, shown)?;
+    names.push_faults(alloc, tokens, home, entries, faults)
+}
+
 /// Adds the faults of what an import of the module `home` exposes.
 fn push_exposing_faults(
     alloc: Global,
@@ -181,11 +234,23 @@ fn push_exposing_faults(
     match &written.import.exposes {
         tree::Exposing::Everything => Ok(()),
         tree::Exposing::These(entries) => {
-            let names = ShownNames::of(alloc, written.shown)?;
-            names.push_faults(alloc, tokens, home, entries, faults)?;
-            Ok(())
+            push_entries_faults(alloc, tokens, home, written.shown, entries, faults)
         }
     }
+}
+
+/// Adds the faults of an import.
+fn push_import_faults(
+    alloc: Global,
+    tokens: &[Token<'_>],
+    written: &Written<'_>,
+    faults: &mut Vec<Finding>,
+) -> Result<(), AllocError>
+    ensures { OnOk result (faults.new.items ≡ faults.old.items
+        ++ import_faults (written_view (tokens_view tokens.now) written.now)) }
+{
+    let home = word_name(alloc, tokens, written.import.name)?;
+    push_exposing_faults(alloc, tokens, &home, written, faults)
 }
 
 /// An import as it is written, beside what its module shows.
@@ -207,8 +272,7 @@ pub fn import_faults(
 {
     let mut faults = Vec::new(alloc);
     for written in imports {
-        let home = word_name(alloc, tokens, written.import.name)?;
-        push_exposing_faults(alloc, tokens, &home, written, &mut faults)?;
+        push_import_faults(alloc, tokens, written, &mut faults)?;
     }
     Ok(faults)
 }

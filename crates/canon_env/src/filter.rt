@@ -1,6 +1,8 @@
 //! What an import lets through without a qualifier.
 
-ghost use Rattle.std.specs.Prelude.{◌≡◌, false, [], IfOk, OnOk};
+ghost use Rattle.std.specs.Prelude.{◌≡◌, ◌||◌, false, [], IfOk, OnOk};
+ghost use Rattle.indexmap.specs.IndexSet.{contains};
+ghost use Rattle.elm_canon.specs.Names.{Name, same_name};
 ghost use Rattle.canon_env.specs.Imports.{exposing_view, Everything, These};
 ghost use Rattle.canon_env.specs.Filter.{Filters, FiltersMore, filter_value, filter_type, filter_makers};
 
@@ -17,6 +19,15 @@ pub struct Filter {
     types: IndexSet<Name>,
     /// Unions whose constructors pass.
     makers: IndexSet<Name>,
+}
+
+/// Adds a name to a set.
+pub(crate) fn insert(names: &mut IndexSet<Name>, name: &Name) -> Result<(), AllocError>
+    ensures { OnOk result ((x : Name) → contains same_name names.new x
+        ≡ (contains same_name names.old x || same_name x name.now)) }
+{
+    names.insert(name.clone()?)?;
+    Ok(())
 }
 
 impl Filter {
@@ -44,17 +55,22 @@ impl Filter {
         ensures { OnOk result (FiltersMore self.old self.new exposed.now) }
     {
         match exposed {
-            Exposed::Value(name) => {
-                self.values.insert(name.clone()?)?;
-            }
-            Exposed::Type(name) => {
-                self.types.insert(name.clone()?)?;
-            }
+            Exposed::Value(name) => insert(&mut self.values, name),
+            Exposed::Type(name) => insert(&mut self.types, name),
             Exposed::OpenType(name) => {
-                self.types.insert(name.clone()?)?;
-                self.makers.insert(name.clone()?)?;
+                insert(&mut self.types, name)?;
+                insert(&mut self.makers, name)
             }
-            Exposed::Operator(_) => {}
+            Exposed::Operator(_) => Ok(()),
+        }
+    }
+
+    /// Lets these entries through too.
+    fn add_all(&mut self, entries: &[Exposed]) -> Result<(), AllocError>
+        ensures { OnOk result (Filters self.old (These []) → Filters self.new (These entries.now)) }
+    {
+        for entry in entries {
+            self.add(entry)?;
         }
         Ok(())
     }
@@ -64,9 +80,7 @@ impl Filter {
         ensures { IfOk result (λ f. Filters f (These entries.now)) }
     {
         let mut filter = Filter::new(alloc, false);
-        for entry in entries {
-            filter.add(entry)?;
-        }
+        filter.add_all(entries)?;
         Ok(filter)
     }
 

@@ -1,6 +1,6 @@
 //! Faults of names.
 
-ghost use Rattle.std.specs.Prelude.{◌≡◌, IfOk};
+ghost use Rattle.std.specs.Prelude.{◌≡◌, ◌++◌, [], ◌∷◌, IfOk, OnOk};
 ghost use Rattle.elm_tree.specs.View as tree;
 ghost use Rattle.elm_tree.specs.Turns.{tokens_view};
 ghost use Rattle.canon_env.specs.Exposing as spec;
@@ -48,4 +48,20 @@ pub fn finding_at(
         place: place_at(tokens, word),
         detail: Text::copy(alloc, text_at(tokens, word))?,
     })
+}
+
+/// Adds the fault of the kind `code` at the word `word`, which its line names. The error means that memory ran out;
+/// then it is not added.
+pub fn push_finding(
+    alloc: Global,
+    tokens: &[Token<'_>],
+    code: Code,
+    word: Word,
+    findings: &mut Vec<Finding>,
+) -> Result<(), AllocError>
+    ensures { OnOk result (findings.new.items ≡ findings.old.items
+        ++ spec.finding code (tree.word_view (tokens_view tokens.now) word) ∷ []) }
+{
+    findings.push(finding_at(alloc, tokens, code, word)?)?;
+    Ok(())
 }

@@ -1,6 +1,6 @@
 //! Imports: of which module, with which qualifier, and what is exposed without one.
 
-ghost use Rattle.std.specs.Prelude.{◌≡◌, ◌++◌, List, map, unwrap_or, IfOk, OnOk};
+ghost use Rattle.std.specs.Prelude.{◌≡◌, ◌++◌, List, [], ◌∷◌, map, unwrap_or, IfOk, OnOk};
 ghost use Rattle.elm_lexer.specs.Tokens as lexed;
 ghost use Rattle.elm_tree.specs.View as tree;
 ghost use Rattle.elm_tree.specs.Turns.{tokens_view};
@@ -174,41 +174,51 @@ fn only(alloc: Global, exposed: Exposed) -> Result<Exposing, AllocError>
     Ok(Exposing::These(exposes))
 }
 
-/// An import of a module that exposes nothing.
-fn qualified(alloc: Global, home: &str) -> Result<Import, AllocError>
-    ensures { IfOk result (λ i. spec.import_view i ≡ spec.qualified home.now) }
+/// Adds the import of the module with the name `home`.
+fn push_named(
+    alloc: Global,
+    imports: &mut Vec<Import>,
+    home: &str,
+    qualifier: &str,
+    exposes: Exposing,
+) -> Result<(), AllocError>
+    ensures { OnOk result (map spec.import_view imports.new.items ≡ map spec.import_view imports.old.items
+        ++ spec.import_named home.now qualifier.now (spec.exposing_view exposes) ∷ []) }
 {
-    import_named(alloc, home, home, Exposing::These(Vec::new(alloc)))
+    imports.push(import_named(alloc, home, qualifier, exposes)?)?;
+    Ok(())
 }
 
-/// An import of a module that exposes a type without constructors.
-fn with_type(alloc: Global, home: &str, qualifier: &str, name: &str) -> Result<Import, AllocError>
-    ensures { IfOk result (λ i. spec.import_view i ≡ spec.with_type home.now qualifier.now name.now) }
+/// Adds an import of a module that exposes nothing.
+fn push_qualified(alloc: Global, imports: &mut Vec<Import>, home: &str) -> Result<(), AllocError>
+    ensures { OnOk result (map spec.import_view imports.new.items ≡ map spec.import_view imports.old.items
+        ++ spec.qualified home.now ∷ []) }
+{
+    push_named(alloc, imports, home, home, Exposing::These(Vec::new(alloc)))
+}
+
+/// Adds an import of a module that exposes a type without constructors.
+fn push_with_type(
+    alloc: Global,
+    imports: &mut Vec<Import>,
+    home: &str,
+    qualifier: &str,
+    name: &str,
+) -> Result<(), AllocError>
+    ensures { OnOk result (map spec.import_view imports.new.items ≡ map spec.import_view imports.old.items
+        ++ spec.with_type home.now qualifier.now name.now ∷ []) }
 {
     let exposes = only(alloc, Exposed::Type(Name::of_text(alloc, name)?))?;
-    import_named(alloc, home, qualifier, exposes)
+    push_named(alloc, imports, home, qualifier, exposes)
 }
 
-/// An import of a module that exposes the type of its name with its constructors.
-fn with_makers(alloc: Global, home: &str) -> Result<Import, AllocError>
-    ensures { IfOk result (λ i. spec.import_view i ≡ spec.with_makers home.now) }
+/// Adds an import of a module that exposes the type of its name with its constructors.
+fn push_with_makers(alloc: Global, imports: &mut Vec<Import>, home: &str) -> Result<(), AllocError>
+    ensures { OnOk result (map spec.import_view imports.new.items ≡ map spec.import_view imports.old.items
+        ++ spec.with_makers home.now ∷ []) }
 {
     let exposes = only(alloc, Exposed::OpenType(Name::of_text(alloc, home)?))?;
-    import_named(alloc, home, home, exposes)
-}
-
-/// The imports that each module has without writing them. The error means that memory ran out.
-pub fn default_imports(alloc: Global) -> Result<Vec<Import>, AllocError>
-    ensures { IfOk result (λ v. map spec.import_view v.items ≡ spec.default_imports) }
-{
-    let mut imports = Vec::new(alloc);
-    imports.push(import_named(alloc, "Basics", "Basics", Exposing::Everything)?)?;
-    imports.push(with_type(alloc, "List", "List", "List")?)?;
-    imports.push(with_makers(alloc, "Maybe")?)?;
-    imports.push(with_makers(alloc, "Result")?)?;
-    imports.push(with_type(alloc, "String", "String", "String")?)?;
-    push_more_imports(alloc, &mut imports)?;
-    Ok(imports)
+    push_named(alloc, imports, home, home, exposes)
 }
 
 /// Adds the default imports from that of `Char` on.
@@ -216,11 +226,34 @@ fn push_more_imports(alloc: Global, imports: &mut Vec<Import>) -> Result<(), All
     ensures { OnOk result (map spec.import_view imports.new.items ≡ map spec.import_view imports.old.items
         ++ spec.more_imports) }
 {
-    imports.push(with_type(alloc, "Char", "Char", "Char")?)?;
-    imports.push(qualified(alloc, "Tuple")?)?;
-    imports.push(qualified(alloc, "Debug")?)?;
-    imports.push(with_type(alloc, "Platform", "Platform", "Program")?)?;
-    imports.push(with_type(alloc, "Platform.Cmd", "Cmd", "Cmd")?)?;
-    imports.push(with_type(alloc, "Platform.Sub", "Sub", "Sub")?)?;
+    push_with_type(alloc, imports, "Char", "Char", "Char")?;
+    push_qualified(alloc, imports, "Tuple")?;
+    push_qualified(alloc, imports, "Debug")?;
+    push_with_type(alloc, imports, "Platform", "Platform", "Program")?;
+    push_with_type(alloc, imports, "Platform.Cmd", "Cmd", "Cmd")?;
+    push_with_type(alloc, imports, "Platform.Sub", "Sub", "Sub")?;
     Ok(())
+}
+
+/// Adds the default imports.
+fn push_default_imports(alloc: Global, imports: &mut Vec<Import>) -> Result<(), AllocError>
+    ensures { OnOk result (map spec.import_view imports.new.items ≡ map spec.import_view imports.old.items
+        ++ spec.default_imports) }
+{
+    push_named(alloc, imports, "Basics", "Basics", Exposing::Everything)?;
+    push_with_type(alloc, imports, "List", "List", "List")?;
+    push_with_makers(alloc, imports, "Maybe")?;
+    push_with_makers(alloc, imports, "Result")?;
+    push_with_type(alloc, imports, "String", "String", "String")?;
+    push_more_imports(alloc, imports)?;
+    Ok(())
+}
+
+/// The imports that each module has without writing them. The error means that memory ran out.
+pub fn default_imports(alloc: Global) -> Result<Vec<Import>, AllocError>
+    ensures { IfOk result (λ v. map spec.import_view v.items ≡ spec.default_imports) }
+{
+    let mut imports = Vec::new(alloc);
+    push_default_imports(alloc, &mut imports)?;
+    Ok(imports)
 }

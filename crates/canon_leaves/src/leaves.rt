@@ -1,10 +1,10 @@
 //! Expressions of one word.
 
-ghost use Rattle.std.specs.Prelude.{◌≡◌, pos, IfOk, OnOk};
+ghost use Rattle.std.specs.Prelude.{◌≡◌, ◌∷◌, [], pos, IfOk, OnOk};
 ghost use Rattle.elm_lexer.specs.declared.token.Kind.TheVariants.{Int};
 ghost use Rattle.elm_tree.specs.View as tree_view;
 ghost use Rattle.elm_tree.specs.View.{place_view};
-ghost use Rattle.elm_tree.specs.Words.{expr_of};
+ghost use Rattle.elm_tree.specs.Words.{expr_of, field_of};
 ghost use Rattle.elm_tree.specs.Turns.{tokens_view};
 ghost use Rattle.elm_canon.specs.Tree as canon;
 ghost use Rattle.elm_canon.specs.declared.tree.Literal.TheVariants as literal;
@@ -13,7 +13,11 @@ ghost use Rattle.canon_sites.specs.Naming.{IsWorld};
 ghost use Rattle.canon_scope.specs.Scope.{locals_of};
 ghost use Rattle.canon_scope.specs.Logs.{Grows};
 ghost use Rattle.canon_pattern.specs.Literals.{AreLiterals, IsSafe};
+ghost use Rattle.canon_env.specs.Imports.{name_of};
+ghost use Rattle.canon_sites.specs.Sites.{ValueUse, OperatorUse, value_meaning};
 ghost use Rattle.canon_calls.specs.Calls.{callee_view};
+ghost use Rattle.canon_calls.specs.Callees.{plain, value_of};
+ghost use Rattle.canon_calls.specs.Operators.{function_of};
 ghost use Rattle.canon_leaves.specs.Exprs as spec;
 
 use crate::fields::field_name;
@@ -62,6 +66,51 @@ fn literal_at(
     Callee::at(alloc, place_at(tokens, word), Expr::Literal(literal))
 }
 
+/// The function of an operator in parentheses. That there is no such operator is noted.
+fn operator_at(
+    alloc: Global,
+    tokens: &[Token<'_>],
+    log: &mut Log,
+    word: Word,
+) -> Result<Callee, AllocError>
+    ensures meaning { IfOk result (λ c. callee_view c
+        ≡ plain (function_of (tree_view.word_view (tokens_view tokens.now) word))) }
+    ensures log { OnOk result ((w : naming.World) → Grows w log.old log.new
+        (OperatorUse (tree_view.word_view (tokens_view tokens.now) word) ∷ [])) }
+{
+    note_operator(alloc, tokens, log, word)?;
+    let function = Box::new(alloc, core_function(alloc, tokens, word)?)?;
+    Ok(Callee::plain(alloc, function))
+}
+
+/// The function that takes a field out, `.x`.
+fn accessor_at(alloc: Global, tokens: &[Token<'_>], word: Word) -> Result<Callee, AllocError>
+    ensures { IfOk result (λ c. callee_view c ≡ spec.at (place_view (tokens_view tokens.now) word)
+        (canon.Accessor (name_of (field_of (tree_view.token_view (tokens_view tokens.now) word))))) }
+{
+    let name = field_name(alloc, tokens, word)?;
+    Callee::at(alloc, place_at(tokens, word), Expr::Accessor(name))
+}
+
+/// The value of a name. A fault of the use is noted, and else the place where a local name is bound that is used.
+fn name_at(
+    alloc: Global,
+    tokens: &[Token<'_>],
+    world: &World,
+    scope: &Scope,
+    log: &mut Log,
+    word: Word,
+) -> Result<Callee, AllocError>
+    ensures meaning { IfOk result (λ c. (w : naming.World) → IsWorld world.now w → callee_view c
+        ≡ plain (value_of (tree_view.long_view (tokens_view tokens.now) word)
+        (value_meaning w (locals_of scope.now) (tree_view.long_view (tokens_view tokens.now) word)))) }
+    ensures log { OnOk result ((w : naming.World) → IsWorld world.now w → Grows w log.old log.new
+        (ValueUse (locals_of scope.now) (tree_view.long_view (tokens_view tokens.now) word) ∷ [])) }
+{
+    let value = Box::new(alloc, value_at(alloc, tokens, world, scope, log, word)?)?;
+    Ok(Callee::plain(alloc, value))
+}
+
 /// What the word `word` means, of which arguments may follow: a literal, a constructor, an operator in parentheses,
 /// `.x`, or a name. It is of the text of the tokens `tokens`, as the lexer makes them; `world` has the names of the
 /// module and its imports, and `scope` the local names. A fault of the use is noted in `log`, and else the place where a
@@ -86,18 +135,8 @@ pub fn one_word(
         Kind::Text => literal_at(alloc, tokens, word, text_value_at(alloc, tokens, word)?),
         Kind::UpperName => maker_at(alloc, tokens, world, log, word),
         Kind::QualifiedUpper => maker_at(alloc, tokens, world, log, word),
-        Kind::Operator => {
-            note_operator(alloc, tokens, log, word)?;
-            let function = Box::new(alloc, core_function(alloc, tokens, word)?)?;
-            Ok(Callee::plain(alloc, function))
-        }
-        Kind::Field => {
-            let name = field_name(alloc, tokens, word)?;
-            Callee::at(alloc, place_at(tokens, word), Expr::Accessor(name))
-        }
-        _ => {
-            let value = Box::new(alloc, value_at(alloc, tokens, world, scope, log, word)?)?;
-            Ok(Callee::plain(alloc, value))
-        }
+        Kind::Operator => operator_at(alloc, tokens, log, word),
+        Kind::Field => accessor_at(alloc, tokens, word),
+        _ => name_at(alloc, tokens, world, scope, log, word),
     }
 }

@@ -1,6 +1,6 @@
 //! Uses of values, constructors and operators.
 
-ghost use Rattle.std.specs.Prelude.{◌≡◌, [], ◌∷◌, IfOk, OnOk};
+ghost use Rattle.std.specs.Prelude.{◌≡◌, [], ◌∷◌, ◌++◌, IfOk, OnOk};
 ghost use Rattle.elm_tree.specs.Tree.{Long};
 ghost use Rattle.elm_tree.specs.View as tree_view;
 ghost use Rattle.elm_tree.specs.View.{word_view};
@@ -10,7 +10,7 @@ ghost use Rattle.canon_sites.specs.Naming as naming;
 ghost use Rattle.canon_env.specs.Found.{One, meant_by};
 ghost use Rattle.canon_env.specs.Shown.{maker_meaning_view};
 ghost use Rattle.canon_sites.specs.Naming.{IsWorld, maker_found, own_name};
-ghost use Rattle.canon_sites.specs.Sites.{ValueUse, MakerUse, OperatorUse, value_meaning};
+ghost use Rattle.canon_sites.specs.Sites.{ValueUse, MakerUse, OperatorUse, value_meaning, at_long};
 ghost use Rattle.canon_scope.specs.Scope.{locals_of};
 ghost use Rattle.canon_scope.specs.Logs.{Grows};
 ghost use Rattle.canon_calls.specs.Calls.{callee_view};
@@ -103,6 +103,23 @@ fn maker_of(
     }
 }
 
+/// What a name means that means no constructor, whose fault is noted.
+fn no_maker(
+    alloc: Global,
+    tokens: &[Token<'_>],
+    log: &mut Log,
+    code: Code,
+    word: Word,
+) -> Result<Callee, AllocError>
+    ensures meaning { IfOk result (λ c. callee_view c ≡ plain blank) }
+    ensures findings { OnOk result (log.new.findings.items ≡ log.old.findings.items
+        ++ at_long code (tree_view.long_view (tokens_view tokens.now) word) ∷ []) }
+    ensures uses { OnOk result (log.new.uses.items ≡ log.old.uses.items) }
+{
+    log.note_name(alloc, tokens, code, word)?;
+    nothing(alloc)
+}
+
 /// The constructor that the name means that the word `word` is, as what is called: one of the module or of its imports.
 /// What has no meaning is 0. A fault of the use is noted. The word is of the text of the tokens `tokens`. The error
 /// means that memory ran out.
@@ -122,16 +139,8 @@ pub fn maker_at(
     let long = LongName::read(alloc, tokens, word)?;
     match world.maker(&long.qualifier, &long.name) {
         Some(Entry::One(meant)) => maker_of(alloc, place_at(tokens, word), long.name, meant),
-        Some(Entry::Several) => {
-            let callee = nothing(alloc)?;
-            log.note_name(alloc, tokens, Code::Ambiguous, word)?;
-            Ok(callee)
-        }
-        None => {
-            let callee = nothing(alloc)?;
-            log.note_name(alloc, tokens, Code::UnknownConstructor, word)?;
-            Ok(callee)
-        }
+        Some(Entry::Several) => no_maker(alloc, tokens, log, Code::Ambiguous, word),
+        None => no_maker(alloc, tokens, log, Code::UnknownConstructor, word),
     }
 }
 
