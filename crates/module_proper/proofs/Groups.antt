@@ -115,7 +115,7 @@ pub record AreGood (home : Name) (outer : Scope) (each : List (List Name)) (item
       is_functional (made_by (slice_index_or items i (ValueItem NoMade))) ≡ true
 
 -- two or more are functions together
-items_together : (x y : Item) (zs : List Item) →
+pub items_together : (x y : Item) (zs : List Item) →
     grouped (x ∷ y ∷ zs) ≡ map Define (group_of (map made_by (x ∷ y ∷ zs)))
 items_together (PortItem r k) y zs = refl
 items_together (ValueItem m) y zs = refl

@@ -16,5 +16,7 @@ pub mod Unions
 pub mod Showing
 -- the whole module
 pub mod Whole
+-- declarations where all is in scope
+pub mod Inside
 -- the resolved module
 pub mod Resolved

@@ -12,7 +12,9 @@ use Rattle.elm_proper.specs.Proper.{Scope, among, with_all}
 use Rattle.elm_proper.specs.Declarations.{ProperDeclarations, after_declarations}
 use Rattle.canon_proper.proofs.Quiet.{append_none}
 use Rattle.module_proper.specs.Modules.{IsAround, AreRead, value_refs, maker_refs}
+use Rattle.module_proper.specs.Inside.{AllInside}
 use Rattle.module_proper.proofs.Whole.{Declares, HasNoFaults, module_proper, module_there}
+use Rattle.module_proper.proofs.Inside.{module_inside}
 
 module _ (s : Setting) (t : tree.Module) (m : canon.Module) (scope : Scope) (is : IsModule s t.declarations m)
     (a : IsAround s.home s.imports t.declarations scope) (read : AreRead s.home t.declarations)
@@ -40,3 +42,11 @@ module _ (s : Setting) (t : tree.Module) (m : canon.Module) (scope : Scope) (is 
   resolved_there r =
       ap (λ ds. among r (after_declarations ds scope)) is.declarations
       ∙ module_there s.home s.imports t.declarations (declared_by t.declarations m) scope a declares read no_faults r
+
+  pub resolved_inside : AllInside
+      (with_all (value_refs s.home t.declarations) (with_all (maker_refs s.home t.declarations) scope)) m.declarations
+  resolved_inside =
+      subst (AllInside (with_all (value_refs s.home t.declarations)
+      (with_all (maker_refs s.home t.declarations) scope)))
+      (sym is.declarations)
+      (module_inside s.home s.imports t.declarations (declared_by t.declarations m) scope a declares read no_faults)

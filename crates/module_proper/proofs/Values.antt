@@ -49,7 +49,8 @@ use Rattle.module_proper.proofs.Groups.{IsGood, AreGood, is_parts, groups_proper
 
 -- ---- names
 
-flat_values : (home : Name) (ds : List Declaration) → flat (tops_each home (value_names_each ds)) ≡ value_refs home ds
+pub flat_values : (home : Name) (ds : List Declaration)
+    → flat (tops_each home (value_names_each ds)) ≡ value_refs home ds
 flat_values home [] = refl
 flat_values home (d ∷ ds) =
     ap (λ rs. tops home (value_names d) ++ rs) (flat_values home ds)
@@ -163,7 +164,7 @@ module _ (w : World) (ds : List Declaration) (scope : Scope) (b : IsBefore w ds 
       among-with_all (Local x) named scope ∙ ap (λ c. c || among (Local x) scope) (no_local_each w.name x each)
       ∙ b.no_locals x
 
-  good : AreGood w.name scope each (items_of w None ds)
+  pub good : AreGood w.name scope each (items_of w None ds)
   good =
       let parts = append_none (flat_map (declaration_faults w) ds)
       (flat_map (faults_at w) (reaching_sites (top_used w ds) (map defined_top ds))) none in record {

@@ -113,7 +113,7 @@ module _ (home : Name) (imports : List Known) (ds : List Declaration) (s : Shown
   unions : AreUnions (map (union_of home w) (unions_in ds))
   unions = unions_are home w ds read.few
 
-  known : AreKnown makers
+  pub known : AreKnown makers
   known = all_known w w home ds a.name read.spelled unions (alias_sound w ds none.types)
 
   new_makers : AreFresh (names_given makers) scope
@@ -170,7 +170,7 @@ module _ (home : Name) (imports : List Known) (ds : List Declaration) (s : Shown
       ∙ or_none (among (Top home x) (maker_refs home ds)) (among (Top home x) scope)
       (not_true (among (Top home x) (maker_refs home ds)) (not_both home x ds read.cased e)) (a.nothing_own x)))
 
-  before : IsBefore w ds inner
+  pub before : IsBefore w ds inner
   before = record {
     name = a.name;
     makers = record {

@@ -18,6 +18,7 @@ ghost use Rattle.canon_proper.specs.Declared.{AreSpelledDeclarations};
 ghost use Rattle.module_proper.specs.Modules.{IsBefore, IsAround, IsOffered, AreRead, AreBare, HasAll};
 ghost use Rattle.module_proper.specs.Modules.{value_refs, maker_refs};
 ghost use Rattle.module_proper.specs.Counted.{AllHaveFew};
+ghost use Rattle.module_proper.specs.Inside.{AllInside};
 
 /// The groups of a module's values, ports among them, are proper in order where no fault was found: each value and port
 /// is a new name, each name is bound before it is used, or with functions that use each other, and what reaches itself
@@ -31,7 +32,8 @@ pub fn values_law()
 {}
 
 /// The declarations of a resolved module are proper in order where no fault was found: its constructors, and then its
-/// groups of values. Each is a new name, and all that the module declares is in scope after them.
+/// groups of values. Each is a new name, and all that the module declares is in scope after them. Each is proper where
+/// all of this is in scope.
 pub fn module_law()
     ensures proper { (s : Setting) (t : tree.Module) (m : canon.Module) (scope : Scope) → IsModule s t.declarations m
         → IsAround s.home s.imports t.declarations scope → AreRead s.home t.declarations → module_faults s t m ≡ []
@@ -40,6 +42,10 @@ pub fn module_law()
         → IsAround s.home s.imports t.declarations scope → AreRead s.home t.declarations → module_faults s t m ≡ []
         → (r : Ref) → among r (after_declarations m.declarations scope)
         ≡ among r (with_all (value_refs s.home t.declarations) (with_all (maker_refs s.home t.declarations) scope)) }
+    ensures inside { (s : Setting) (t : tree.Module) (m : canon.Module) (scope : Scope) → IsModule s t.declarations m
+        → IsAround s.home s.imports t.declarations scope → AreRead s.home t.declarations → module_faults s t m ≡ []
+        → AllInside (with_all (value_refs s.home t.declarations) (with_all (maker_refs s.home t.declarations) scope))
+        m.declarations }
 {}
 
 /// What a module shows is in scope where all that it declares is, and the constructors of the unions that it shows are

@@ -1,0 +1,2 @@
+-- names among names
+pub mod Among

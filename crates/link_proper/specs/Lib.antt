@@ -1,0 +1,2 @@
+-- modules with proper names
+pub mod Modules
