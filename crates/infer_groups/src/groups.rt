@@ -1,6 +1,6 @@
 //! Type groups without annotations.
 
-ghost use Rattle.std.specs.Prelude.{◌≡◌, ℕ, List, IfOk, length, map};
+ghost use Rattle.std.specs.Prelude.{◌≡◌, ℕ, List, IfOk, OnOk, length, map};
 ghost use Rattle.std.specs.List.{AllZip};
 ghost use Rattle.type_items.specs.Definitions as plain;
 ghost use Rattle.type_items.specs.Items.{child};
@@ -92,6 +92,7 @@ pub fn close_group(
         (here state.new)) }
     ensures entered { IfOk result (λ es. without es.items (code_of scope.new)
         ≡ without opened.entered.items (code_of scope.old)) }
+    ensures store { OnOk result ((here state.new).store ≡ (here state.old).store) }
 {
     closing_law();
     let Opened { names, entered } = opened;

@@ -35,7 +35,8 @@ pub(crate) fn leave(state: &mut State)
 /// Goes back from a child of a place to the place, and out of one definition.
 pub(crate) fn come_back(state: &mut State)
     requires { 0 < (here state.old).depth }
-    ensures { (s : plain.State) (i : ℕ) → here state.old ≡ inside s i → here state.new ≡ s }
+    ensures back { (s : plain.State) (i : ℕ) → here state.old ≡ inside s i → here state.new ≡ s }
+    ensures store { (here state.new).store ≡ (here state.old).store }
 {
     state.place.pop();
     state.depth -= 1;

@@ -30,7 +30,7 @@ returns-clause-closed c code ds i old left done =
     c.in_ok-general.ensures) in
     subst (λ s. Defined code (code_of c.enter_general.new.scope) (λ q. group_places (child q i))
     (at_number i (listed_group ds)) old s)
-    (sym (c.come_back.ensures new i was))
+    (sym (c.come_back.ensures.back new i was))
     (subst (λ k. Defined code k (λ q. group_places (child q i)) (at_number i (listed_group ds)) old new)
     (sym (c.in_ok-left.ensures.scope ∙ ap (with_general gs) (c.in_ok-leave.ensures ∙ left)))
     (c.closing_law.ensures code ds i names gs old now done frozen))

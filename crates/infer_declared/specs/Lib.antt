@@ -1,0 +1,4 @@
+pub mod Titles
+pub mod Reading
+pub mod Laws
+pub mod Beginning

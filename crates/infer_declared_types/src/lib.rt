@@ -1,0 +1,4 @@
+//! The types of names with annotations, where they are used.
+#![tactic(auto)]
+
+pub mod declaring;
