@@ -1,0 +1,4 @@
+//! Type inference of expressions.
+#![tactic(auto)]
+
+pub mod exprs;

@@ -1,0 +1,4 @@
+pub mod Members
+pub mod Begun
+pub mod Finished
+pub mod First

@@ -1,0 +1,6 @@
+pub mod Formed
+pub mod Linked
+pub mod Steps
+pub mod Parts
+pub mod Chains
+pub mod Reading
