@@ -1,0 +1,2 @@
+-- functions that stand alone in their groups
+mod Alone

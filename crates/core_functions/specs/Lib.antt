@@ -1,0 +1,2 @@
+-- functions of core modules that no text can say
+pub mod Cores

@@ -1,0 +1,2 @@
+-- values of modules, one after another
+pub mod Values

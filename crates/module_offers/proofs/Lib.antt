@@ -1,0 +1,2 @@
+-- values of lists of definitions
+pub mod Valuing

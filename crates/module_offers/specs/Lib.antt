@@ -1,0 +1,4 @@
+-- what a module offers to those that import it
+pub mod Offers
+-- as the program keeps it
+pub mod View
