@@ -1,16 +1,17 @@
 //! Runs the phases of the compiler on whole modules and projects.
 //!
-//! The words `check`, `read` and `names` say what is done with the words after them:
+//! The words `check`, `read`, `names` and `patterns` say what is done with the words after them:
 //!
-//! - `check`: each is the path of a text, which is read; its tree is printed back as a text and compared. The line is the
-//!   path and `ok`, or the fault as `PATH:ROW:COL: CODE NAME DETAIL`.
+//! - `check`: each is the path of a text, which is read; its tree is printed back as a text and compared. The line is
+//!   the path and `ok`, or the fault as `PATH:ROW:COL: CODE NAME DETAIL`.
 //! - `read`: the same without printing and comparing.
 //! - `names`: each is the folder of a project, whose modules are resolved in order from `src/Main.elm` on. The line is
-//!   the folder and `ok`, or the folder and each fault. The texts of core, with names alone, stand in the folder `core`.
+//!   the folder and `ok`, or the folder and each fault. The core library is that of `elmc`; `Array`, which it does
+//!   not have yet, stands in the folder `core`, with names alone.
+//! - `patterns`: the same, and where a module has no faults of names the faults of its patterns.
 #![tactic(auto)]
 
 mod checking;
-mod core_modules;
 mod exprs;
 mod modules;
 mod names;

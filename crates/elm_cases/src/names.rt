@@ -9,7 +9,7 @@ use canon_env::exposing::Written;
 use canon_env::finding::{Finding, place_at};
 use canon_env::import::Import;
 use canon_env::shown::Shown;
-use canon_module::module::{Setting, resolve};
+use canon_module::module::{Resolved, Setting, resolve};
 use elm_base::fault::{Code, Fault, fault_line};
 use elm_base::position::{Pos, Region};
 use elm_base::text::Text;
@@ -19,6 +19,7 @@ use elm_parser::Parsed;
 use elm_tree::turns::text_at;
 use indexmap::IndexMap;
 use module_walk::{Found, Module};
+use pattern_faults::walk::pattern_faults;
 use std::alloc::{AllocError, Global};
 use std::sync::Arc;
 
@@ -103,50 +104,140 @@ pub fn import_lines(
     Ok(lines)
 }
 
-/// The outcome of the module `home` at `path`, which imports `defaults` without writing them. `shows` has what each of
-/// its imports shows.
-pub fn resolved(
-    alloc: Global,
-    path: &str,
+/// What the module of a name shows, of the project's own modules and those of core.
+fn shown_by<'a>(
+    core: &'a IndexMap<Name, Shown>,
+    own: &'a IndexMap<Name, Shown>,
     home: &Name,
-    given: &[Arc<UnionDeclaration, Global>],
-    defaults: &[Import],
-    shows: &IndexMap<Name, Shown>,
-    parsed: &Parsed<'_>,
-) -> Result<Outcome, AllocError>
-    requires { AreLiterals (map token_view parsed.now.tokens.items) }
-{
-    let imports = &parsed.module.head.imports;
-    let mut read = Vec::new(alloc);
-    for import in imports {
-        read.push(Import::read(alloc, &parsed.tokens, import)?)?;
+) -> Option<&'a Shown> {
+    match own.get(home) {
+        Some(shown) => Some(shown),
+        None => core.get(home),
     }
+}
+
+/// The imports of a list that `shows` has, each beside what it shows.
+pub fn known_imports<'a>(
+    alloc: Global,
+    imports: &'a [Import],
+    shows: &'a IndexMap<Name, Shown>,
+) -> Result<Vec<Known<'a>>, AllocError> {
     let mut known = Vec::new(alloc);
-    for import in defaults {
+    for import in imports {
         if let Some(shown) = shows.get(&import.home) {
             known.push(Known { import, shown })?;
         }
     }
-    let mut written = Vec::new(alloc);
-    for (number, import) in read.iter().enumerate() {
-        if let (Some(shown), Some(tree)) = (shows.get(&import.home), imports.get(number)) {
+    Ok(known)
+}
+
+/// The imports that are written.
+fn read_imports(alloc: Global, parsed: &Parsed<'_>) -> Result<Vec<Import>, AllocError> {
+    let mut read = Vec::new(alloc);
+    for import in &parsed.module.head.imports {
+        read.push(Import::read(alloc, &parsed.tokens, import)?)?;
+    }
+    Ok(read)
+}
+
+/// Those that are not written, and then those of a list of which `core` or `own` has what they show.
+fn all_known<'a>(
+    alloc: Global,
+    defaults: &'a [Known<'_>],
+    read: &'a [Import],
+    core: &'a IndexMap<Name, Shown>,
+    own: &'a IndexMap<Name, Shown>,
+) -> Result<Vec<Known<'a>>, AllocError> {
+    let mut known = Vec::new(alloc);
+    for default in defaults {
+        known.push(Known {
+            import: default.import,
+            shown: default.shown,
+        })?;
+    }
+    for import in read {
+        if let Some(shown) = shown_by(core, own, &import.home) {
             known.push(Known { import, shown })?;
-            written.push(Written {
-                import: tree,
-                shown,
-            })?;
         }
     }
+    Ok(known)
+}
+
+/// Those that are written, of which `core` or `own` has what they show.
+fn all_written<'a>(
+    alloc: Global,
+    parsed: &'a Parsed<'_>,
+    read: &[Import],
+    core: &'a IndexMap<Name, Shown>,
+    own: &'a IndexMap<Name, Shown>,
+) -> Result<Vec<Written<'a>>, AllocError> {
+    let mut written = Vec::new(alloc);
+    for (number, import) in parsed.module.head.imports.iter().enumerate() {
+        if let Some(shown) = shown_at(read, number, core, own) {
+            written.push(Written { import, shown })?;
+        }
+    }
+    Ok(written)
+}
+
+/// What the import at a place of a list shows.
+fn shown_at<'a>(
+    read: &[Import],
+    number: usize,
+    core: &'a IndexMap<Name, Shown>,
+    own: &'a IndexMap<Name, Shown>,
+) -> Option<&'a Shown> {
+    match read.get(number) {
+        None => None,
+        Some(import) => shown_by(core, own, &import.home),
+    }
+}
+
+/// The outcome of the module `home` at `path`, which imports `defaults` without writing them. `core` and `own` have
+/// what each of its other imports shows. Faults of patterns are told if `patterns` says so and there are none of names.
+pub fn resolved<'a>(
+    alloc: Global,
+    path: &str,
+    home: &'a Name,
+    given: &'a [Arc<UnionDeclaration, Global>],
+    defaults: &[Known<'_>],
+    core: &IndexMap<Name, Shown>,
+    own: &IndexMap<Name, Shown>,
+    parsed: &Parsed<'_>,
+    patterns: bool,
+) -> Result<Outcome, AllocError>
+    requires { AreLiterals (map token_view parsed.now.tokens.items) }
+{
+    let read = read_imports(alloc, parsed)?;
+    let known = all_known(alloc, defaults, &read, core, own)?;
+    let written = all_written(alloc, parsed, &read, core, own)?;
     let setting = Setting {
         home,
         given,
         imports: &known,
         written: &written,
     };
-    let module = resolve(alloc, &parsed.tokens, &setting, &parsed.module)?;
-    if module.faults.is_empty() {
-        Ok(Outcome::Good(module.shown))
+    let found = resolve(alloc, &parsed.tokens, &setting, &parsed.module)?;
+    let lines = all_lines(alloc, path, &found, patterns)?;
+    if lines.is_empty() {
+        Ok(Outcome::Good(found.shown))
     } else {
-        Ok(Outcome::Bad(lines(alloc, path, &module.faults)?))
+        Ok(Outcome::Bad(lines))
     }
+}
+
+/// The lines of the faults of names, or else those of patterns if `patterns` says so.
+fn all_lines(
+    alloc: Global,
+    path: &str,
+    found: &Resolved,
+    patterns: bool,
+) -> Result<Vec<u8>, AllocError> {
+    if !found.faults.is_empty() {
+        return lines(alloc, path, &found.faults);
+    }
+    if patterns {
+        return lines(alloc, path, &pattern_faults(alloc, &found.module)?);
+    }
+    Ok(Vec::new(alloc))
 }

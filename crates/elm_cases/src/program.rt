@@ -1,7 +1,7 @@
 //! The loop over the words.
 
 use crate::checking::{Outcome, checked, is_read};
-use crate::projects::{core_shows, project_lines};
+use crate::projects::{Modules, add_all_core, project_lines};
 use elm_base::fault::{Code, Fault, fault_line};
 use elm_base::position::{Pos, Region};
 use elm_base::text::Text;
@@ -19,6 +19,7 @@ enum Mode {
     Check,
     Read,
     Names,
+    Patterns,
 }
 
 /// What is done with the words after this one, if it says so.
@@ -27,8 +28,33 @@ fn mode_of(word: &str) -> Option<Mode> {
         "check" => Some(Mode::Check),
         "read" => Some(Mode::Read),
         "names" => Some(Mode::Names),
+        "patterns" => Some(Mode::Patterns),
         _ => None,
     }
+}
+
+/// Whether a word asks for names or patterns, for which the core library is resolved.
+fn uses_core(words: &[String]) -> bool {
+    for word in words {
+        if matches!(mode_of(word), Some(Mode::Names | Mode::Patterns)) {
+            return true;
+        }
+    }
+    false
+}
+
+/// Adds the core library, if a word asks for it.
+fn add_core<R: rt::Files + AllocGlobal + Clone>(
+    runtime: &R,
+    words: &[String],
+    core: &mut Modules,
+) -> Result<(), FileError> {
+    if !uses_core(words) {
+        return Ok(());
+    }
+    let alloc = runtime.alloc();
+    let mut here = HostFiles::new(runtime.clone()?, String::from_str(alloc, ".")?);
+    add_all_core(alloc, &mut here, core)
 }
 
 /// Does what the words say, after the name of the program, and prints the lines.
@@ -37,12 +63,24 @@ pub fn run<R: rt::Files + AllocGlobal + Clone, O: Sink>(
     words: &[String],
     out: &mut O,
 ) -> Result<(), FileError> {
+    let mut core = Modules::new(runtime.alloc());
+    add_core(runtime, words, &mut core)?;
+    put_all(runtime, &core, words, out)
+}
+
+/// Does what the words say, after the name of the program, over core, and prints the lines.
+fn put_all<R: rt::Files + AllocGlobal + Clone, O: Sink>(
+    runtime: &R,
+    core: &Modules,
+    words: &[String],
+    out: &mut O,
+) -> Result<(), FileError> {
     let mut mode = Mode::Check;
     for word in words.iter().skip(1) {
         match mode_of(word) {
             Some(next) => mode = next,
             None => {
-                let lines = lines_of(runtime, mode, word)?;
+                let lines = lines_of(runtime, core, mode, word)?;
                 out.put(&lines)?;
             }
         }
@@ -53,6 +91,7 @@ pub fn run<R: rt::Files + AllocGlobal + Clone, O: Sink>(
 /// The lines for a word.
 fn lines_of<R: rt::Files + AllocGlobal + Clone>(
     runtime: &R,
+    core: &Modules,
     mode: Mode,
     word: &str,
 ) -> Result<Vec<u8>, FileError> {
@@ -61,16 +100,26 @@ fn lines_of<R: rt::Files + AllocGlobal + Clone>(
     match mode {
         Mode::Check => line_of(alloc, &mut here, word, true),
         Mode::Read => line_of(alloc, &mut here, word, false),
-        Mode::Names => {
-            let (core, faults) = core_shows(alloc, &mut here)?;
-            if !faults.is_empty() {
-                return Ok(faults);
-            }
-            let mut files = HostFiles::new(runtime.clone()?, String::from_str(alloc, word)?);
-            let lines = project_lines(alloc, &mut files, core)?;
-            Ok(with_folder(alloc, word, &lines)?)
-        }
+        Mode::Names => folder_lines(runtime, core, word, false),
+        Mode::Patterns => folder_lines(runtime, core, word, true),
     }
+}
+
+/// The lines of the project in a folder, with the faults of its patterns if `patterns` says so: those of the core
+/// library, if it has any.
+fn folder_lines<R: rt::Files + AllocGlobal + Clone>(
+    runtime: &R,
+    core: &Modules,
+    word: &str,
+    patterns: bool,
+) -> Result<Vec<u8>, FileError> {
+    let alloc = runtime.alloc();
+    if !core.faults.is_empty() {
+        return Ok(core.faults.clone()?);
+    }
+    let mut files = HostFiles::new(runtime.clone()?, String::from_str(alloc, word)?);
+    let lines = project_lines(alloc, &mut files, &core.shows, patterns)?;
+    Ok(with_folder(alloc, word, &lines)?)
 }
 
 /// The lines of a project after its folder; of none, that it has no faults.

@@ -1,5 +1,0 @@
-module Debug exposing (todo)
-
-
-todo value =
-    value

@@ -1,8 +1,0 @@
-module Platform exposing (Program, worker)
-
-
-type Program flags model msg = Program
-
-
-worker value =
-    value

@@ -1,0 +1,6 @@
+module Main exposing (first)
+
+first xs =
+    case xs of
+        [] ->
+            0

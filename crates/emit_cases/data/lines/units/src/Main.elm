@@ -1,0 +1,13 @@
+module Main exposing (..)
+
+
+blank =
+    ()
+
+
+yes =
+    True
+
+
+no =
+    False
