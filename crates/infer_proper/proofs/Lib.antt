@@ -1,0 +1,4 @@
+-- expressions
+mod Forming
+-- modules
+mod Modules
