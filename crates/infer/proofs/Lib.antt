@@ -1,0 +1,15 @@
+pub mod Refs
+pub mod Lists
+pub mod Looking
+pub mod Tables
+pub mod Adding
+pub mod Once
+pub mod Proper
+pub mod Written
+pub mod Keeping
+pub mod Reading
+pub mod Stepping
+pub mod Grouping
+pub mod Reopened
+pub mod Ending
+pub mod Beginning
