@@ -8,9 +8,6 @@
 //! - `run`: the folder, and the lines that the whole output prints for the flags and inputs in the folder's
 //!   `inputs.txt`.
 //! - `output`: the whole output alone, with all of core and all modules of the project.
-//!
-//! What the lines of declarations must be is written by hand. What a run of a project in `accept` must print was
-//! printed in node by the output of Elm's own compiler, and of one in `run` it is written by hand.
 #![tactic(auto)]
 
 mod names;
