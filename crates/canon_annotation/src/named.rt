@@ -1,8 +1,9 @@
 //! What the name of a type with its arguments means.
 
-ghost use Rattle.std.specs.Prelude.{◌≡◌, ◌++◌, Some, IfOk, OnOk};
+ghost use Rattle.std.specs.Prelude.{◌≡◌, ◌++◌, ◌∷◌, [], Some, IfOk, OnOk};
 ghost use Rattle.elm_tree.specs.View.{long_view};
 ghost use Rattle.elm_tree.specs.Turns.{tokens_view};
+ghost use Rattle.elm_canon.specs.Tree.{NamedType};
 ghost use Rattle.elm_canon.specs.View.{annotation_view, types_view};
 ghost use Rattle.canon_env.specs.Shown.{type_meaning_view};
 ghost use Rattle.canon_env.specs.Found.{One, meant_by};
@@ -10,7 +11,8 @@ ghost use Rattle.canon_sites.specs.Naming as naming;
 ghost use Rattle.canon_sites.specs.Naming.{IsWorld, own_name, type_found};
 ghost use Rattle.canon_sites.specs.Expanding as sites;
 ghost use Rattle.canon_sites.specs.Expanding.{blank, applied};
-ghost use Rattle.canon_sites.specs.Sites.{faults_at, TypeUse, type_faults, extension_faults, utf8};
+ghost use Rattle.canon_type.specs.Filling.{Fills};
+ghost use Rattle.canon_sites.specs.Sites.{at_long, faults_at, TypeUse, type_faults, extension_faults, utf8};
 
 use canon_env::env::{World, no_name};
 use canon_env::finding::{Finding, place_at};
@@ -32,6 +34,22 @@ pub(crate) fn blank(alloc: Global) -> Result<Annotation, AllocError>
     ensures { IfOk result (λ t. annotation_view t ≡ blank) }
 {
     Ok(Annotation::Variable(no_name(alloc)?))
+}
+
+/// The type of what has no meaning, with a fault at the word `word`.
+fn no_type(
+    alloc: Global,
+    tokens: &[Token<'_>],
+    code: Code,
+    word: Word,
+    findings: &mut Vec<Finding>,
+) -> Result<Annotation, AllocError>
+    ensures meaning { IfOk result (λ t. annotation_view t ≡ blank) }
+    ensures faults { OnOk result (findings.new.items ≡ findings.old.items
+        ++ at_long code (long_view (tokens_view tokens.now) word) ∷ []) }
+{
+    findings.push(finding_long(alloc, tokens, code, word)?)?;
+    blank(alloc)
 }
 
 /// The parameters of a type.
@@ -88,6 +106,28 @@ fn push_extension_fault(
     Ok(())
 }
 
+/// The type with what `filling` has in the place of its variables, and the fault at the word `word` where that extends
+/// what it may not.
+fn filled(
+    alloc: Global,
+    tokens: &[Token<'_>],
+    word: Word,
+    body: &Annotation,
+    filling: &Filling,
+    findings: &mut Vec<Finding>,
+) -> Result<Annotation, AllocError>
+    ensures meaning { IfOk result (λ t. (s : sites.Filling) → Fills filling.now s
+        → annotation_view t ≡ sites.fill s (annotation_view body.now)) }
+    ensures faults { OnOk result ((s : sites.Filling) → Fills filling.now s → findings.new.items
+        ≡ findings.old.items ++ extension_faults (long_view (tokens_view tokens.now) word)
+        (sites.bad_fields s (annotation_view body.now))) }
+{
+    let mut bad = Vec::new(alloc);
+    push_bad_fields(alloc, body, filling, &mut bad)?;
+    push_extension_fault(alloc, tokens, word, &bad, findings)?;
+    fill(alloc, body, filling)
+}
+
 /// The type that an alias stands for with these arguments, and the fault at the word `word` where it extends what it
 /// may not.
 fn of_alias(
@@ -110,10 +150,14 @@ fn of_alias(
         return copy(alloc, &alias.body);
     }
     let filling = Filling::of(alloc, &alias.parameters, arguments)?;
-    let mut bad = Vec::new(alloc);
-    push_bad_fields(alloc, &alias.body, &filling, &mut bad)?;
-    push_extension_fault(alloc, tokens, word, &bad, findings)?;
-    fill(alloc, &alias.body, &filling)
+    filled(alloc, tokens, word, &alias.body, &filling, findings)
+}
+
+/// A type of the module `home` with these arguments.
+fn union_type(home: &Name, name: Name, arguments: Vec<Annotation>) -> Result<Annotation, AllocError>
+    ensures { IfOk result (λ t. annotation_view t ≡ NamedType home.now name (types_view arguments.items)) }
+{
+    Ok(Annotation::Named(home.clone()?, name, arguments))
 }
 
 /// The type that a name means with these arguments, and the fault at the word `word`.
@@ -133,11 +177,10 @@ fn of_meaning(
         (type_meaning_view meant.now.meaning)) }
 {
     if parameters(&meant.meaning).len() != arguments.len() {
-        findings.push(finding_long(alloc, tokens, Code::TypeArity, word)?)?;
-        return blank(alloc);
+        return no_type(alloc, tokens, Code::TypeArity, word, findings);
     }
     match &meant.meaning {
-        TypeMeaning::Union(_) => Ok(Annotation::Named(meant.home.clone()?, name, arguments)),
+        TypeMeaning::Union(_) => union_type(&meant.home, name, arguments),
         TypeMeaning::Alias(alias) => of_alias(alloc, tokens, word, alias, arguments, findings),
     }
 }
@@ -159,14 +202,8 @@ pub(crate) fn named(
 {
     let long = long_name(alloc, tokens, word)?;
     match world.type_named(&long.qualifier, &long.name) {
-        None => {
-            findings.push(finding_long(alloc, tokens, Code::UnknownType, word)?)?;
-            blank(alloc)
-        }
-        Some(Entry::Several) => {
-            findings.push(finding_long(alloc, tokens, Code::Ambiguous, word)?)?;
-            blank(alloc)
-        }
+        None => no_type(alloc, tokens, Code::UnknownType, word, findings),
+        Some(Entry::Several) => no_type(alloc, tokens, Code::Ambiguous, word, findings),
         Some(Entry::One(meant)) => {
             of_meaning(alloc, tokens, word, long.name, meant, arguments, findings)
         }

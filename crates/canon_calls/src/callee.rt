@@ -2,12 +2,12 @@
 
 ghost use Rattle.std.specs.Prelude.{◌≡◌, ◌++◌, ◌∷◌, [], map, IfOk, OnOk};
 ghost use Rattle.elm_canon.specs.View.{expr_view};
-ghost use Rattle.elm_canon.specs.Tree.{Located, Strict, Build, exprs_of};
+ghost use Rattle.elm_canon.specs.Tree.{Apply, Located, Strict, Build, exprs_of};
 ghost use Rattle.canon_calls.specs.Callees as spec;
 ghost use Rattle.canon_calls.specs.Calls.{head_view, callee_view};
 ghost use Rattle.canon_calls.specs.Parts.{in_box};
 
-use crate::links::then;
+use crate::links::{boxed, then};
 use elm_base::position::Pos;
 use elm_canon::reference::Ref;
 use elm_canon::tree::{Expr, Link, Op};
@@ -46,16 +46,16 @@ impl Callee {
     pub fn of(alloc: Global, expr: Expr) -> Result<Callee, AllocError>
         ensures { IfOk result (λ c. callee_view c ≡ spec.plain (expr_view expr)) }
     {
-        Ok(Callee::plain(alloc, Box::new(alloc, expr)?))
+        let expr = boxed(alloc, expr)?;
+        Ok(Callee::plain(alloc, expr))
     }
 
     /// The expression `expr`, which begins at `place`, without arguments. The error means that memory ran out.
-    #[tactic(auto, using(elm_canon::proofs::Views::located))]
     pub fn at(alloc: Global, place: Pos, expr: Expr) -> Result<Callee, AllocError>
         ensures { IfOk result (λ c. callee_view c ≡ spec.plain (Located place (expr_view expr))) }
     {
-        let expr = Box::new(alloc, expr)?;
-        Callee::of(alloc, Expr::Located(place, expr))
+        let expr = located(alloc, place, expr)?;
+        Ok(Callee::plain(alloc, expr))
     }
 
     /// Puts the argument `argument` after the others. The error means that memory ran out.
@@ -72,8 +72,7 @@ impl Callee {
             ≡ spec.with_arguments (callee_view self) (map expr_view arguments.items)) }
     {
         let mut callee = self;
-        let mut arguments = arguments;
-        callee.arguments.append(&mut arguments)?;
+        append(&mut callee.arguments, arguments)?;
         Ok(callee)
     }
 
@@ -93,6 +92,24 @@ impl Callee {
             }
         }
     }
+}
+
+/// Adds parts.
+fn append(parts: &mut Vec<Expr>, more: Vec<Expr>) -> Result<(), AllocError>
+    ensures { OnOk result (parts.new.items ≡ parts.old.items ++ more.items) }
+{
+    let mut more = more;
+    parts.append(&mut more)?;
+    Ok(())
+}
+
+/// An expression that begins at `place`.
+#[tactic(auto, using(elm_canon::proofs::Views::located))]
+fn located(alloc: Global, place: Pos, expr: Expr) -> Result<Box<Expr>, AllocError>
+    ensures { IfOk result (λ e. expr_view e.value ≡ Located place (expr_view expr)) }
+{
+    let expr = boxed(alloc, expr)?;
+    boxed(alloc, Expr::Located(place, expr))
 }
 
 /// Adds a part.
@@ -119,13 +136,46 @@ fn last_chain(alloc: Global, parts: &mut Vec<Expr>) -> Result<Option<Box<Expr>>,
         return Ok(None);
     }
     match parts.pop() {
-        Some(last) => Ok(Some(Box::new(alloc, last)?)),
+        Some(last) => Ok(Some(boxed(alloc, last)?)),
         None => Ok(None),
     }
 }
 
-/// A constructor with all of its fields.
+/// A constructor with these fields.
 #[tactic(auto, using(elm_canon::proofs::Views::strict))]
+fn built_of(
+    alloc: Global,
+    place: Pos,
+    union: Union,
+    alternative: Alternative,
+    fields: Vec<Expr>,
+) -> Result<Box<Expr>, AllocError>
+    ensures { IfOk result (λ e. expr_view e.value
+        ≡ Strict (Build place union alternative) (exprs_of (map expr_view fields.items))) }
+{
+    let op = Op::Build(place, union, alternative);
+    boxed(alloc, Expr::Strict(op, fields))
+}
+
+/// A constructor with these fields and the field `last` after them, as a chain that begins with that.
+#[tactic(auto, using(elm_canon::proofs::Views::part_after))]
+fn built_after(
+    alloc: Global,
+    place: Pos,
+    union: Union,
+    alternative: Alternative,
+    fields: Vec<Expr>,
+    last: Box<Expr>,
+) -> Result<Box<Expr>, AllocError>
+    ensures { IfOk result (λ e. expr_view e.value
+        ≡ Strict (Build place union alternative)
+        (exprs_of (map expr_view fields.items ++ expr_view last.value ∷ []))) }
+{
+    let op = Op::Build(place, union, alternative);
+    then(alloc, last, Link::After(op, fields))
+}
+
+/// A constructor with all of its fields.
 fn built(
     alloc: Global,
     place: Pos,
@@ -138,15 +188,8 @@ fn built(
 {
     let mut fields = fields;
     match last_chain(alloc, &mut fields)? {
-        Some(last) => then(
-            alloc,
-            last,
-            Link::After(Op::Build(place, union, alternative), fields),
-        ),
-        None => Ok(Box::new(
-            alloc,
-            Expr::Strict(Op::Build(place, union, alternative), fields),
-        )?),
+        Some(last) => built_after(alloc, place, union, alternative, fields, last),
+        None => built_of(alloc, place, union, alternative, fields),
     }
 }
 
@@ -155,8 +198,8 @@ fn built(
 pub fn top_name(alloc: Global, place: Pos, home: Name, name: Name) -> Result<Expr, AllocError>
     ensures { IfOk result (λ e. expr_view e ≡ spec.top_name place home name) }
 {
-    let expr = Expr::Name(Ref::Top(home, name));
-    Ok(Expr::Located(place, Box::new(alloc, expr)?))
+    let expr = boxed(alloc, Expr::Name(Ref::Top(home, name)))?;
+    Ok(Expr::Located(place, expr))
 }
 
 /// A name of a module with these arguments, if there are any.
@@ -170,29 +213,53 @@ fn named(
     ensures { IfOk result (λ e. expr_view e.value
         ≡ spec.given (spec.top_name place home name) (map expr_view arguments.items)) }
 {
-    let function = Box::new(alloc, top_name(alloc, place, home, name)?)?;
+    let function = boxed(alloc, top_name(alloc, place, home, name)?)?;
     given(alloc, function, arguments)
 }
 
-/// A function with these arguments, if there are any. The error means that memory ran out.
+/// A function with these arguments, if there are any.
 #[tactic(auto, using(elm_canon::proofs::Views::apply))]
+fn given_all(
+    alloc: Global,
+    function: Box<Expr>,
+    arguments: Vec<Expr>,
+) -> Result<Box<Expr>, AllocError>
+    ensures { IfOk result (λ e. expr_view e.value
+        ≡ spec.given (expr_view function.value) (map expr_view arguments.items)) }
+{
+    if arguments.len() == 0 {
+        Ok(function)
+    } else {
+        boxed(alloc, Expr::Apply(function, arguments))
+    }
+}
+
+/// A function with these arguments and the argument `last` after them, as a chain that begins with that.
+#[tactic(auto, using(elm_canon::proofs::Views::given))]
+pub(crate) fn given_last(
+    alloc: Global,
+    function: Box<Expr>,
+    arguments: Vec<Expr>,
+    last: Box<Expr>,
+) -> Result<Box<Expr>, AllocError>
+    ensures { IfOk result (λ e. expr_view e.value ≡ Apply (expr_view function.value)
+        (exprs_of (map expr_view arguments.items ++ expr_view last.value ∷ []))) }
+{
+    then(
+        alloc,
+        last,
+        Link::Given(Box::into_inner(function), arguments),
+    )
+}
+
+/// A function with these arguments, if there are any. The error means that memory ran out.
 fn given(alloc: Global, function: Box<Expr>, arguments: Vec<Expr>) -> Result<Box<Expr>, AllocError>
     ensures { IfOk result (λ e. expr_view e.value
         ≡ spec.given (expr_view function.value) (map expr_view arguments.items)) }
 {
     let mut arguments = arguments;
     match last_chain(alloc, &mut arguments)? {
-        Some(last) => then(
-            alloc,
-            last,
-            Link::Given(Box::into_inner(function), arguments),
-        ),
-        None => {
-            if arguments.len() == 0 {
-                Ok(function)
-            } else {
-                Ok(Box::new(alloc, Expr::Apply(function, arguments))?)
-            }
-        }
+        Some(last) => given_last(alloc, function, arguments, last),
+        None => given_all(alloc, function, arguments),
     }
 }

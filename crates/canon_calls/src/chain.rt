@@ -11,8 +11,8 @@ ghost use Rattle.canon_calls.specs.Callees as spec;
 ghost use Rattle.canon_calls.specs.Calls.{callee_view};
 ghost use Rattle.canon_calls.specs.Chains.{waiting_view, operand_view, closed, waits_on, reached};
 
-use crate::callee::Callee;
-use crate::links::{chained, then};
+use crate::callee::{Callee, given_last};
+use crate::links::{boxed, chained, then};
 use crate::operators::{Between, core_function, effect_of};
 use canon_env::finding::place_at;
 use elm_base::position::Pos;
@@ -172,7 +172,6 @@ fn composed(
 }
 
 /// The same, with the right one as the first.
-#[tactic(auto, using(elm_canon::proofs::Views::given))]
 fn applied(
     alloc: Global,
     function: Box<Expr>,
@@ -183,14 +182,14 @@ fn applied(
         ≡ spec.called (expr_view function.value) (expr_view left.value) (expr_view right.value)) }
 {
     let left = one(alloc, left)?;
-    then(alloc, right, Link::Given(Box::into_inner(function), left))
+    given_last(alloc, function, left, right)
 }
 
 /// The core function of an operator, in a box.
 fn core_box(alloc: Global, tokens: &[Token<'_>], operator: Word) -> Result<Box<Expr>, AllocError>
     ensures { IfOk result (λ e. expr_view e.value ≡ function_of (word_view (tokens_view tokens.now) operator)) }
 {
-    Ok(Box::new(alloc, core_function(alloc, tokens, operator)?)?)
+    boxed(alloc, core_function(alloc, tokens, operator)?)
 }
 
 /// What calls the function of an operator with both operands.

@@ -6,6 +6,13 @@ ghost use Rattle.elm_canon.specs.View.{expr_view, link_view, linked, done};
 use elm_canon::tree::{Expr, Link};
 use std::alloc::{AllocError, Global};
 
+/// An expression in a box.
+pub(crate) fn boxed(alloc: Global, expr: Expr) -> Result<Box<Expr>, AllocError>
+    ensures { IfOk result (λ b. b.value ≡ expr) }
+{
+    Ok(Box::new(alloc, expr)?)
+}
+
 /// An expression as the first of a chain.
 #[derive(Drop)]
 struct Opened {
@@ -20,10 +27,13 @@ fn take_apart(alloc: Global, expr: Expr) -> Result<Opened, AllocError>
 {
     match expr {
         Expr::Chain(first, links) => Ok(Opened { first, links }),
-        other => Ok(Opened {
-            first: Box::new(alloc, other)?,
-            links: Vec::new(alloc),
-        }),
+        other => {
+            let first = boxed(alloc, other)?;
+            Ok(Opened {
+                first,
+                links: Vec::new(alloc),
+            })
+        }
     }
 }
 
@@ -36,7 +46,7 @@ fn extended(alloc: Global, expr: Box<Expr>, links: Vec<Link>) -> Result<Box<Expr
     let mut more = links;
     let Opened { first, mut links } = take_apart(alloc, Box::into_inner(expr))?;
     links.append(&mut more)?;
-    Ok(Box::new(alloc, Expr::Chain(first, links))?)
+    boxed(alloc, Expr::Chain(first, links))
 }
 
 /// An expression, and what is done with it.

@@ -34,6 +34,27 @@ fn push_given(
     Ok(())
 }
 
+/// A name of the module `home`.
+fn top_name(home: &Name, name: &Name) -> Result<Ref, AllocError>
+    ensures { IfOk result (λ r. r ≡ Top home.now name.now) }
+{
+    Ok(Ref::Top(home.clone()?, name.clone()?))
+}
+
+/// Adds one constructor of a union.
+fn push_maker(
+    home: &Name,
+    alternative: &Alternative,
+    makers: &mut Vec<tree::Declaration>,
+) -> Result<(), AllocError>
+    ensures { OnOk result (map declaration_view makers.new.items
+        ≡ map declaration_view makers.old.items ++ maker_of home.now alternative.now ∷ []) }
+{
+    let known = alternative.clone()?;
+    let name = top_name(home, &alternative.name)?;
+    push_given(makers, name, Known::Maker(known))
+}
+
 /// Adds constructors of a union.
 fn push_alternatives(
     home: &Name,
@@ -44,8 +65,7 @@ fn push_alternatives(
         ≡ map declaration_view makers.old.items ++ map (maker_of home.now) alternatives.now) }
 {
     for alternative in alternatives {
-        let name = Ref::Top(home.clone()?, alternative.name.clone()?);
-        push_given(makers, name, Known::Maker(alternative.clone()?))?;
+        push_maker(home, alternative, makers)?;
     }
     Ok(())
 }
@@ -99,8 +119,9 @@ fn push_record(
         (canon.RecordMaker (map (λ f. name_of (tree_view.word_view (tokens_view tokens.now) f.name)) fields.now))
         ∷ []) }
 {
-    let name = Ref::Top(home.clone()?, word_name(alloc, tokens, word)?);
     let names = field_names(alloc, tokens, fields)?;
+    let alias = word_name(alloc, tokens, word)?;
+    let name = top_name(home, &alias)?;
     push_given(makers, name, Known::RecordMaker(names))
 }
 

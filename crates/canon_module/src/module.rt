@@ -12,6 +12,7 @@ ghost use Rattle.canon_env.specs.Shown.{shown_view, unions_view};
 ghost use Rattle.canon_sites.specs.Naming as naming;
 ghost use Rattle.canon_sites.specs.Naming.{IsWorld};
 ghost use Rattle.canon_sites.specs.Order.{IsInOrder};
+ghost use Rattle.canon_names.specs.Names.{names_in};
 ghost use Rattle.canon_names.specs.View.{names_view};
 ghost use Rattle.canon_names.specs.Faults.{name_faults};
 ghost use Rattle.canon_pattern.specs.Literals.{AreLiterals};
@@ -23,7 +24,7 @@ ghost use Rattle.canon_module.specs.Kept.{setting_view};
 
 use crate::makers::makers;
 use crate::ports::ports;
-use crate::shown::{exposed_by, shown_by};
+use crate::shown::shown_of;
 use canon_declared::constructors::names_of;
 use canon_env::env::{Env, Known, World};
 use canon_env::exposing::{Written, import_faults};
@@ -125,8 +126,8 @@ fn declared(
         (imported_rows (map known_view setting.now.imports.now)) (shown_view d.value.shown))
         (map (tree_view.declaration_view (tokens_view tokens.now)) declarations.now)) }
 {
-    let imported = Env::of(alloc, setting.imports)?;
     let values = names_of(alloc, tokens, &names.values)?;
+    let imported = Env::of(alloc, setting.imports)?;
     let declared = declared_types(
         alloc,
         tokens,
@@ -166,27 +167,109 @@ fn meanings(
 
 /// A module with its types, its ports and its values.
 fn assembled(
-    alloc: Global,
-    home: &Name,
+    name: Name,
     declared: Box<Declared>,
     ports: Vec<PortDeclaration>,
     declarations: Vec<canon::Declaration>,
-) -> Result<Module, AllocError>
-    ensures name { IfOk result (λ m. (module_view m).name ≡ home.now) }
-    ensures unions { IfOk result (λ m. (module_view m).unions ≡ (shown_view declared.value.shown).unions) }
-    ensures aliases { IfOk result (λ m. (module_view m).aliases ≡ (shown_view declared.value.shown).aliases) }
-    ensures ports { IfOk result (λ m. (module_view m).ports ≡ map port_declaration_view ports.items) }
-    ensures declarations { IfOk result (λ m. (module_view m).declarations
-        ≡ map declaration_view declarations.items) }
+) -> Module
+    ensures name { (module_view result).name ≡ name }
+    ensures unions { (module_view result).unions ≡ (shown_view declared.value.shown).unions }
+    ensures aliases { (module_view result).aliases ≡ (shown_view declared.value.shown).aliases }
+    ensures ports { (module_view result).ports ≡ map port_declaration_view ports.items }
+    ensures declarations { (module_view result).declarations ≡ map declaration_view declarations.items }
 {
-    let name = home.clone()?;
     let Declared { shown, world: _ } = Box::into_inner(declared);
-    Ok(Module {
+    Module {
         name,
         unions: shown.unions,
         aliases: shown.aliases,
         ports,
         declarations,
+    }
+}
+
+/// What a module declares and can name, with the faults of its imports, of the names that it declares and exposes, and
+/// of its types.
+#[derive(Drop)]
+struct Begun {
+    declared: Box<Declared>,
+    findings: Vec<Finding>,
+}
+
+/// What a module declares and can name.
+fn begin(
+    alloc: Global,
+    tokens: &[Token<'_>],
+    setting: &Setting<'_>,
+    parsed: &tree::Module,
+) -> Result<Begun, AllocError>
+    ensures values { IfOk result (λ b. (shown_view b.declared.value.shown).values ≡ map name_of
+        (names_in (tree_view.module_view (tokens_view tokens.now) parsed.now).declarations).values) }
+    ensures types { IfOk result (λ b. AreDeclared setting.now.home.now
+        (imported_rows (map known_view setting.now.imports.now))
+        (tree_view.module_view (tokens_view tokens.now) parsed.now).declarations
+        (shown_view b.declared.value.shown)) }
+    ensures all { IfOk result (λ b. AreAll setting.now.home.now
+        (imported_rows (map known_view setting.now.imports.now))
+        (tree_view.module_view (tokens_view tokens.now) parsed.now).declarations
+        (shown_view b.declared.value.shown)) }
+    ensures world { IfOk result (λ b. IsWorld b.declared.value.world (module_world setting.now.home.now
+        (imported_rows (map known_view setting.now.imports.now)) (shown_view b.declared.value.shown))) }
+    ensures faults { IfOk result (λ b. b.findings.items
+        ≡ spec.heading_faults (setting_view (tokens_view tokens.now) setting.now)
+        (tree_view.module_view (tokens_view tokens.now) parsed.now)
+        ++ declared_faults (module_world setting.now.home.now
+        (imported_rows (map known_view setting.now.imports.now)) (shown_view b.declared.value.shown))
+        (tree_view.module_view (tokens_view tokens.now) parsed.now).declarations) }
+{
+    let declarations = parsed.declarations.as_slice();
+    let names = Names::of(alloc, declarations)?;
+    let mut findings = heading_faults(alloc, tokens, setting, &names, &parsed.head.header)?;
+    let declared = declared(alloc, tokens, setting, &names, declarations, &mut findings)?;
+    Ok(Begun { declared, findings })
+}
+
+/// The values and ports of a module, with all of its faults in order.
+#[derive(Drop)]
+struct Contents {
+    declarations: Vec<canon::Declaration>,
+    ports: Vec<PortDeclaration>,
+    faults: Vec<Finding>,
+}
+
+/// The values and ports of a module, of which the faults `findings` are known.
+fn valued(
+    alloc: Global,
+    tokens: &[Token<'_>],
+    home: &Name,
+    world: &World,
+    findings: Vec<Finding>,
+    declarations: &[Declaration],
+) -> Result<Contents, AllocError>
+    requires { AreLiterals (tokens_view tokens.now) }
+    ensures declarations { IfOk result (λ v. (w : naming.World) → IsWorld world.now w → w.name ≡ home.now
+        → map declaration_view v.declarations.items ≡ flat_map (spec.makers_in home.now)
+        (map (tree_view.declaration_view (tokens_view tokens.now)) declarations.now)
+        ++ value_groups w (map (tree_view.declaration_view (tokens_view tokens.now)) declarations.now)) }
+    ensures ports { IfOk result (λ v. (w : naming.World) → IsWorld world.now w
+        → map port_declaration_view v.ports.items ≡ flat_map (spec.ports_in w)
+        (map (tree_view.declaration_view (tokens_view tokens.now)) declarations.now)) }
+    ensures faults { IfOk result (λ v. (w : naming.World) → IsWorld world.now w → w.name ≡ home.now
+        → IsInOrder (findings.items
+        ++ value_faults w (map (tree_view.declaration_view (tokens_view tokens.now)) declarations.now))
+        v.faults.items) }
+{
+    let mut log = Log {
+        findings,
+        uses: Vec::new(alloc),
+    };
+    let meanings = meanings(alloc, tokens, home, world, &mut log, declarations)?;
+    let ports = ports(alloc, tokens, world, declarations)?;
+    let faults = in_order(alloc, log.findings)?;
+    Ok(Contents {
+        declarations: meanings,
+        ports,
+        faults,
     })
 }
 
@@ -215,25 +298,24 @@ pub fn resolve(
         (tree_view.module_view (tokens_view tokens.now) parsed.now) (module_view r.module)) r.faults.items) }
 {
     let declarations = parsed.declarations.as_slice();
-    let header = &parsed.head.header;
-    let names = Names::of(alloc, declarations)?;
-    let mut log = Log::new(alloc);
-    log.findings = heading_faults(alloc, tokens, setting, &names, header)?;
-    let declared = declared(
+    let begun = begin(alloc, tokens, setting, parsed)?;
+    let Begun { declared, findings } = begun;
+    let world = &declared.world;
+    let valued = valued(alloc, tokens, setting.home, world, findings, declarations)?;
+    let shown = shown_of(
         alloc,
         tokens,
-        setting,
-        &names,
-        declarations,
-        &mut log.findings,
+        &parsed.head.header,
+        setting.given,
+        &declared.shown,
     )?;
-    let world = &declared.world;
-    let meanings = meanings(alloc, tokens, setting.home, world, &mut log, declarations)?;
-    let ports = ports(alloc, tokens, world, declarations)?;
-    let exposes = exposed_by(alloc, tokens, header)?;
-    let shown = shown_by(alloc, &exposes, setting.given, &declared.shown)?;
-    let faults = in_order(alloc, log.findings)?;
-    let module = assembled(alloc, setting.home, declared, ports, meanings)?;
+    let name = setting.home.clone()?;
+    let Contents {
+        declarations: meanings,
+        ports,
+        faults,
+    } = valued;
+    let module = assembled(name, declared, ports, meanings);
     Ok(Resolved {
         module,
         shown,

@@ -15,11 +15,18 @@ use elm_lexer::token::Token;
 use elm_tree::tree::Declaration;
 use std::alloc::{AllocError, Global};
 
+/// What a port declares.
+fn declaration_part(port: Port) -> PortDeclaration
+    ensures { result ≡ port.declaration }
+{
+    port.declaration
+}
+
 /// Adds what a port declares.
 fn push_declaration(ports: &mut Vec<PortDeclaration>, port: Port) -> Result<(), AllocError>
     ensures { OnOk result (ports.new.items ≡ ports.old.items ++ port.declaration ∷ []) }
 {
-    ports.push(port.declaration)?;
+    ports.push(declaration_part(port))?;
     Ok(())
 }
 

@@ -1,12 +1,14 @@
 //! What a module shows of all that it has.
 
-ghost use Rattle.std.specs.Prelude.{◌≡◌, ◌++◌, map, option_map, IfOk, OnOk};
+ghost use Rattle.std.specs.Prelude.{◌≡◌, ◌++◌, [], map, option_map, IfOk, OnOk};
 ghost use Rattle.std.specs.List.{filter};
 ghost use Rattle.elm_tree.specs.View.{header_view};
 ghost use Rattle.elm_tree.specs.Turns.{tokens_view};
+ghost use Rattle.elm_canon.specs.Unions.{Declared};
 ghost use Rattle.elm_canon.specs.View.{union_declaration_view};
+ghost use Rattle.canon_env.specs.Imports as imports;
 ghost use Rattle.canon_env.specs.Imports.{exposing_view};
-ghost use Rattle.canon_env.specs.Filter.{filter_value, filter_type, filter_makers};
+ghost use Rattle.canon_env.specs.Filter.{Filters, filter_value, filter_type, filter_makers};
 ghost use Rattle.canon_env.specs.Shown.{shown_view, unions_view, aliases_view};
 ghost use Rattle.canon_module.specs.Offers as spec;
 
@@ -23,7 +25,7 @@ use std::sync::Arc;
 
 /// What the header `header` exposes by the text of the tokens `tokens`. None: the module has no header, and exposes
 /// everything. The error means that memory ran out.
-pub(crate) fn exposed_by(
+fn exposed_by(
     alloc: Global,
     tokens: &[Token<'_>],
     header: &Option<Header>,
@@ -50,6 +52,15 @@ fn values(alloc: Global, passing: &Filter, all: &[Name]) -> Result<Vec<Name>, Al
     Ok(values)
 }
 
+/// The union of a name, without constructors.
+fn opaque_union(alloc: Global, home: &Name, name: &Name) -> Result<Union, AllocError>
+    ensures { IfOk result (λ u. u ≡ Declared home.now name.now []) }
+{
+    let home = home.clone()?;
+    let name = name.clone()?;
+    Union::new(alloc, UnionShape::Declared(home, name, Vec::new(alloc)))
+}
+
 /// A union without constructors.
 fn without_makers(alloc: Global, union: &Union) -> Result<Union, AllocError>
     ensures { IfOk result (λ u. u ≡ spec.without_makers union.now) }
@@ -57,24 +68,31 @@ fn without_makers(alloc: Global, union: &Union) -> Result<Union, AllocError>
     match union.shape() {
         UnionShape::Tuple(_) => union.clone(),
         UnionShape::List => union.clone(),
-        UnionShape::Declared(home, name, _) => Union::new(
-            alloc,
-            UnionShape::Declared(home.clone()?, name.clone()?, Vec::new(alloc)),
-        ),
+        UnionShape::Declared(home, name, _) => opaque_union(alloc, home, name),
     }
+}
+
+/// A copy of names.
+fn copied(alloc: Global, names: &[Name]) -> Result<Vec<Name>, AllocError>
+    ensures { IfOk result (λ v. v.items ≡ names.now) }
+{
+    let mut copies = Vec::with_capacity(alloc, names.len())?;
+    for name in names {
+        copies.push(name.clone()?)?;
+    }
+    Ok(copies)
 }
 
 /// A union whose constructors nobody else knows.
 fn opaque(alloc: Global, union: &UnionDeclaration) -> Result<UnionDeclaration, AllocError>
     ensures { IfOk result (λ u. union_declaration_view u ≡ spec.opaque (union_declaration_view union.now)) }
 {
-    let mut parameters = Vec::with_capacity(alloc, union.parameters.len())?;
-    for name in &union.parameters {
-        parameters.push(name.clone()?)?;
-    }
+    let parameters = copied(alloc, &union.parameters)?;
+    let name = union.name.clone()?;
+    let union = without_makers(alloc, &union.union)?;
     Ok(UnionDeclaration {
-        name: union.name.clone()?,
-        union: without_makers(alloc, &union.union)?,
+        name,
+        union,
         parameters,
         fields: Vec::new(alloc),
     })
@@ -132,10 +150,32 @@ fn aliases(
     Ok(aliases)
 }
 
+/// What passes of the unions that a module has without a text, and of all that it declares.
+fn passed(
+    alloc: Global,
+    passing: &Filter,
+    given: &[Arc<UnionDeclaration, Global>],
+    all: &Shown,
+) -> Result<Shown, AllocError>
+    ensures { IfOk result (λ s. (e : imports.Exposing) → Filters passing.now e → shown_view s
+        ≡ spec.shown_by e (unions_view given.now) (shown_view all.now)) }
+{
+    let mut unions = Vec::new(alloc);
+    push_unions(alloc, passing, given, &mut unions)?;
+    push_unions(alloc, passing, &all.unions, &mut unions)?;
+    let values = values(alloc, passing, &all.values)?;
+    let aliases = aliases(alloc, passing, &all.aliases)?;
+    Ok(Shown {
+        values,
+        unions,
+        aliases,
+    })
+}
+
 /// What a module shows to those that import it, where its header exposes `exposes`: it declares `all`, and has the
 /// unions `given` without a text. A union whose constructors are not exposed has none. It takes time in proportion to
 /// what is declared and exposed. The error means that memory ran out.
-pub(crate) fn shown_by(
+fn shown_by(
     alloc: Global,
     exposes: &Exposing,
     given: &[Arc<UnionDeclaration, Global>],
@@ -145,12 +185,21 @@ pub(crate) fn shown_by(
         ≡ spec.shown_by (exposing_view exposes.now) (unions_view given.now) (shown_view all.now)) }
 {
     let passing = Filter::of(alloc, exposes)?;
-    let mut unions = Vec::new(alloc);
-    push_unions(alloc, &passing, given, &mut unions)?;
-    push_unions(alloc, &passing, &all.unions, &mut unions)?;
-    Ok(Shown {
-        values: values(alloc, &passing, &all.values)?,
-        unions,
-        aliases: aliases(alloc, &passing, &all.aliases)?,
-    })
+    passed(alloc, &passing, given, all)
+}
+
+/// The same by the header of the module.
+pub(crate) fn shown_of(
+    alloc: Global,
+    tokens: &[Token<'_>],
+    header: &Option<Header>,
+    given: &[Arc<UnionDeclaration, Global>],
+    all: &Shown,
+) -> Result<Shown, AllocError>
+    ensures { IfOk result (λ s. shown_view s
+        ≡ spec.shown_by (spec.exposed_by (option_map (header_view (tokens_view tokens.now)) header.now))
+        (unions_view given.now) (shown_view all.now)) }
+{
+    let exposes = exposed_by(alloc, tokens, header)?;
+    shown_by(alloc, &exposes, given, all)
 }

@@ -1,8 +1,9 @@
 //! Whether a module declares what its header exposes.
 
-ghost use Rattle.std.specs.Prelude.{◌≡◌, ◌||◌, ◌++◌, List, map, flat_map, IfOk, OnOk};
+ghost use Rattle.std.specs.Prelude.{◌≡◌, ◌||◌, ◌++◌, List, [], map, flat_map, IfOk, OnOk};
 ghost use Rattle.indexmap.specs.IndexSet.{contains};
 ghost use Rattle.elm_canon.specs.Names.{Name, same_name};
+ghost use Rattle.elm_tree.specs.Tree as tree;
 ghost use Rattle.elm_tree.specs.View as tree_view;
 ghost use Rattle.elm_tree.specs.Turns.{tokens_view};
 ghost use Rattle.canon_env.specs.Imports.{name_of};
@@ -12,7 +13,7 @@ ghost use Rattle.canon_names.specs.Faults.{is_declared, export_fault};
 ghost use Rattle.canon_names.specs.View.{names_view, entry_of, IsDeclaredOf};
 
 use crate::names::Names;
-use canon_env::finding::{Finding, finding_at};
+use canon_env::finding::{Finding, push_finding};
 use canon_env::import::word_name;
 use elm_base::fault::Code;
 use elm_lexer::token::{Kind, Token};
@@ -49,6 +50,20 @@ fn insert_names(names: &mut IndexSet<Name>, more: &[Name]) -> Result<(), AllocEr
     Ok(())
 }
 
+/// Adds the name that a word spells to a set.
+fn insert_word(
+    alloc: Global,
+    tokens: &[Token<'_>],
+    names: &mut IndexSet<Name>,
+    word: Word,
+) -> Result<(), AllocError>
+    ensures { OnOk result ((x : Name) → contains same_name names.new x ≡ (contains same_name names.old x
+        || same_name x (name_of (tree_view.word_view (tokens_view tokens.now) word)))) }
+{
+    let name = word_name(alloc, tokens, word)?;
+    insert(names, &name)
+}
+
 /// Adds the names that words spell to a set.
 fn insert_words(
     alloc: Global,
@@ -60,7 +75,7 @@ fn insert_words(
         || is_among x (map name_of (tree_view.words_view (tokens_view tokens.now) words.now)))) }
 {
     for word in words {
-        insert(names, &word_name(alloc, tokens, *word)?)?;
+        insert_word(alloc, tokens, names, *word)?;
     }
     Ok(())
 }
@@ -98,6 +113,34 @@ fn form_of(tokens: &[Token<'_>], entry: &Exposed) -> Form
 }
 
 impl Declared {
+    /// Nothing.
+    fn new(alloc: Global) -> Declared
+        ensures { IsDeclaredOf result [] spec.no_names }
+    {
+        Declared {
+            values: IndexSet::new(alloc),
+            types: IndexSet::new(alloc),
+            unions: IndexSet::new(alloc),
+        }
+    }
+
+    /// Adds what a header may expose of a module that declares these names, and has these types without a text.
+    fn fill(
+        &mut self,
+        alloc: Global,
+        tokens: &[Token<'_>],
+        given: &[Name],
+        names: &Names,
+    ) -> Result<(), AllocError>
+        ensures { OnOk result (IsDeclaredOf self.old [] spec.no_names
+            → IsDeclaredOf self.new given.now (names_view (tokens_view tokens.now) names.now)) }
+    {
+        insert_words(alloc, tokens, &mut self.values, &names.values)?;
+        insert_names(&mut self.types, given)?;
+        insert_words(alloc, tokens, &mut self.types, &names.types)?;
+        insert_words(alloc, tokens, &mut self.unions, &names.unions)
+    }
+
     /// What a header may expose of a module that declares these names, and has these types without a text.
     pub(crate) fn of(
         alloc: Global,
@@ -107,16 +150,22 @@ impl Declared {
     ) -> Result<Declared, AllocError>
         ensures { IfOk result (λ d. IsDeclaredOf d given.now (names_view (tokens_view tokens.now) names.now)) }
     {
-        let mut declared = Declared {
-            values: IndexSet::new(alloc),
-            types: IndexSet::new(alloc),
-            unions: IndexSet::new(alloc),
-        };
-        insert_words(alloc, tokens, &mut declared.values, &names.values)?;
-        insert_names(&mut declared.types, given)?;
-        insert_words(alloc, tokens, &mut declared.types, &names.types)?;
-        insert_words(alloc, tokens, &mut declared.unions, &names.unions)?;
+        let mut declared = Declared::new(alloc);
+        declared.fill(alloc, tokens, given, names)?;
         Ok(declared)
+    }
+
+    /// Whether a name is of what is exposed in this form.
+    fn has_name(&self, form: Form, name: &Name) -> bool
+        ensures { (given : List Name) → (n : spec.Names) → (word : tree.Word) → IsDeclaredOf self.now given n
+            → name.now ≡ name_of word → result ≡ is_declared given n (entry_of form word) }
+    {
+        match form {
+            Form::Value => self.values.contains(name),
+            Form::Type => self.types.contains(name),
+            Form::OpenType => self.unions.contains(name),
+            Form::Operator => false,
+        }
     }
 
     /// Whether the module declares what an entry of its header exposes.
@@ -125,12 +174,7 @@ impl Declared {
             ≡ is_declared given n (tree_view.exposed_view (tokens_view tokens.now) entry.now)) }
     {
         let name = word_name(alloc, tokens, entry.name)?;
-        match form_of(tokens, entry) {
-            Form::Value => Ok(self.values.contains(&name)),
-            Form::Type => Ok(self.types.contains(&name)),
-            Form::OpenType => Ok(self.unions.contains(&name)),
-            Form::Operator => Ok(false),
-        }
+        Ok(self.has_name(form_of(tokens, entry), &name))
     }
 
     /// Adds the fault of one entry, if it has one.
@@ -145,10 +189,11 @@ impl Declared {
             findings.new.items ≡ findings.old.items
             ++ export_fault given n (tree_view.exposed_view (tokens_view tokens.now) entry.now)) }
     {
-        if !self.has(alloc, tokens, entry)? {
-            findings.push(finding_at(alloc, tokens, Code::ExportUnknown, entry.name)?)?;
+        if self.has(alloc, tokens, entry)? {
+            Ok(())
+        } else {
+            push_finding(alloc, tokens, Code::ExportUnknown, entry.name, findings)
         }
-        Ok(())
     }
 
     /// Adds the faults of entries.

@@ -1,21 +1,21 @@
 //! The faults of the names that a module declares and exposes.
 
-ghost use Rattle.std.specs.Prelude.{◌≡◌, ◌++◌, List, map, option_map, OnOk};
+ghost use Rattle.std.specs.Prelude.{◌≡◌, ◌++◌, List, map, flat_map, option_map, OnOk};
 ghost use Rattle.elm_lexer.specs.Tokens as lexed;
 ghost use Rattle.elm_tree.specs.View as tree_view;
 ghost use Rattle.elm_tree.specs.Turns.{tokens_view};
 ghost use Rattle.canon_sites.specs.Sites.{at_word};
-ghost use Rattle.canon_names.specs.Faults.{duplicate_faults, export_faults, name_faults, may_have_ports};
+ghost use Rattle.canon_names.specs.Faults.{duplicate_faults, export_fault, export_faults, name_faults, may_have_ports};
 ghost use Rattle.canon_names.specs.View.{names_view};
 
 use crate::exports::Declared;
 use crate::names::Names;
-use canon_env::finding::{Finding, finding_at};
+use canon_env::finding::{Finding, push_finding};
 use canon_sites::repeats::push_repeats;
 use elm_base::fault::Code;
 use elm_lexer::token::Token;
 use elm_names::name::Name;
-use elm_tree::tree::{Exposing, Header, Word};
+use elm_tree::tree::{Exposed, Exposing, Header, Word};
 use std::alloc::{AllocError, Global};
 
 /// Adds the faults of names that are declared twice.
@@ -36,8 +36,7 @@ fn push_duplicates(
         Code::DuplicateName,
         &names.constructors,
         findings,
-    )?;
-    Ok(())
+    )
 }
 
 /// Adds a fault of one kind for each of the words.
@@ -52,9 +51,26 @@ fn push_each(
         ++ map (at_word code) (tree_view.words_view (tokens_view tokens.now) words.now)) }
 {
     for word in words {
-        findings.push(finding_at(alloc, tokens, code, *word)?)?;
+        push_finding(alloc, tokens, code, *word, findings)?;
     }
     Ok(())
+}
+
+/// Adds the faults of these entries of a header.
+fn push_entries(
+    alloc: Global,
+    tokens: &[Token<'_>],
+    given: &[Name],
+    names: &Names,
+    entries: &[Exposed],
+    findings: &mut Vec<Finding>,
+) -> Result<(), AllocError>
+    ensures { OnOk result (findings.new.items ≡ findings.old.items
+        ++ flat_map (export_fault given.now (names_view (tokens_view tokens.now) names.now))
+        (map (tree_view.exposed_view (tokens_view tokens.now)) entries.now)) }
+{
+    let declared = Declared::of(alloc, tokens, given, names)?;
+    declared.push_faults(alloc, tokens, entries, findings)
 }
 
 /// Adds the faults of what a header exposes.
@@ -70,13 +86,15 @@ fn push_exports(
         ++ export_faults given.now (names_view (tokens_view tokens.now) names.now)
         (option_map (tree_view.header_view (tokens_view tokens.now)) header.now)) }
 {
-    if let Some(header) = header {
-        if let Exposing::These(entries) = &header.exposes {
-            let declared = Declared::of(alloc, tokens, given, names)?;
-            declared.push_faults(alloc, tokens, entries, findings)?;
-        }
+    match header {
+        Some(header) => match &header.exposes {
+            Exposing::These(entries) => {
+                push_entries(alloc, tokens, given, names, entries, findings)
+            }
+            Exposing::Everything => Ok(()),
+        },
+        None => Ok(()),
     }
-    Ok(())
 }
 
 /// Whether a module with this header may have ports.

@@ -1,7 +1,8 @@
 //! The names that a module declares.
 
-ghost use Rattle.std.specs.Prelude.{◌≡◌, ◌++◌, List, map, IfOk, OnOk};
+ghost use Rattle.std.specs.Prelude.{◌≡◌, ◌++◌, ◌∷◌, List, [], map, IfOk, OnOk};
 ghost use Rattle.elm_lexer.specs.Tokens as lexed;
+ghost use Rattle.elm_tree.specs.Tree as tree;
 ghost use Rattle.elm_tree.specs.View as tree_view;
 ghost use Rattle.canon_names.specs.Names as spec;
 ghost use Rattle.canon_names.specs.View.{names_view};
@@ -37,6 +38,14 @@ fn is_closed_record(written: &TypeTree) -> bool
     }
 }
 
+/// Adds a word.
+fn push_word(words: &mut Vec<Word>, word: Word) -> Result<(), AllocError>
+    ensures { OnOk result (words.new.items ≡ words.old.items ++ word ∷ []) }
+{
+    words.push(word)?;
+    Ok(())
+}
+
 /// Adds the name that a definition defines.
 #[tactic(auto, using(elm_tree::proofs::Views::annotate_definition, elm_tree::proofs::Views::define_definition, elm_tree::proofs::Views::destructure_definition))]
 fn push_defined(words: &mut Vec<Word>, definition: &Definition) -> Result<(), AllocError>
@@ -45,11 +54,10 @@ fn push_defined(words: &mut Vec<Word>, definition: &Definition) -> Result<(), Al
         ++ spec.defined_word (tree_view.definition_view tokens definition.now)) }
 {
     match definition {
-        Definition::Define(name, _, _) => words.push(*name)?,
-        Definition::Annotate(_, _) => {}
-        Definition::Destructure(_, _) => {}
+        Definition::Define(name, _, _) => push_word(words, *name),
+        Definition::Annotate(_, _) => Ok(()),
+        Definition::Destructure(_, _) => Ok(()),
     }
-    Ok(())
 }
 
 /// Adds the names of constructors.
@@ -59,7 +67,7 @@ fn push_constructors(words: &mut Vec<Word>, constructors: &[Constructor]) -> Res
         ++ spec.constructor_words (map (tree_view.constructor_view tokens) constructors.now)) }
 {
     for constructor in constructors {
-        words.push(constructor.name)?;
+        push_word(words, constructor.name)?;
     }
     Ok(())
 }
@@ -77,6 +85,42 @@ impl Names {
         }
     }
 
+    /// Adds the name of a port.
+    fn push_port(&mut self, name: Word) -> Result<(), AllocError>
+        ensures { OnOk result ((tokens : List lexed.Token) → (t : tree.TypeTree) → names_view tokens self.new
+            ≡ spec.join (names_view tokens self.old)
+            (spec.names_of (tree.Port (tree_view.word_view tokens name) t))) }
+    {
+        push_word(&mut self.values, name)?;
+        push_word(&mut self.ports, name)
+    }
+
+    /// Adds the names of a union.
+    fn push_union(&mut self, name: Word, constructors: &[Constructor]) -> Result<(), AllocError>
+        ensures { OnOk result ((tokens : List lexed.Token) → (ps : List tree.Word) → names_view tokens self.new
+            ≡ spec.join (names_view tokens self.old)
+            (spec.names_of (tree.Union (tree_view.word_view tokens name) ps
+            (map (tree_view.constructor_view tokens) constructors.now)))) }
+    {
+        push_word(&mut self.types, name)?;
+        push_word(&mut self.unions, name)?;
+        push_constructors(&mut self.constructors, constructors)
+    }
+
+    /// Adds the names of an alias.
+    fn push_alias(&mut self, name: Word, written: &TypeTree) -> Result<(), AllocError>
+        ensures { OnOk result ((tokens : List lexed.Token) → (ps : List tree.Word) → names_view tokens self.new
+            ≡ spec.join (names_view tokens self.old)
+            (spec.names_of (tree.Alias (tree_view.word_view tokens name) ps (tree_view.type_view tokens written.now)))) }
+    {
+        push_word(&mut self.types, name)?;
+        if is_closed_record(written) {
+            push_word(&mut self.constructors, name)
+        } else {
+            Ok(())
+        }
+    }
+
     /// Adds the names of one declaration.
     fn push(&mut self, declaration: &Declaration) -> Result<(), AllocError>
         ensures { OnOk result ((tokens : List lexed.Token) → names_view tokens self.new
@@ -84,22 +128,21 @@ impl Names {
             (spec.names_of (tree_view.declaration_view tokens declaration.now))) }
     {
         match declaration {
-            Declaration::Value(definition) => push_defined(&mut self.values, definition)?,
-            Declaration::Port(name, _) => {
-                self.values.push(*name)?;
-                self.ports.push(*name)?;
-            }
-            Declaration::Union(name, _, constructors) => {
-                self.types.push(*name)?;
-                self.unions.push(*name)?;
-                push_constructors(&mut self.constructors, constructors)?;
-            }
-            Declaration::Alias(name, _, written) => {
-                self.types.push(*name)?;
-                if is_closed_record(written) {
-                    self.constructors.push(*name)?;
-                }
-            }
+            Declaration::Value(definition) => push_defined(&mut self.values, definition),
+            Declaration::Port(name, _) => self.push_port(*name),
+            Declaration::Union(name, _, constructors) => self.push_union(*name, constructors),
+            Declaration::Alias(name, _, written) => self.push_alias(*name, written),
+        }
+    }
+
+    /// Adds the names of declarations.
+    fn fill(&mut self, declarations: &[Declaration]) -> Result<(), AllocError>
+        ensures { OnOk result ((tokens : List lexed.Token) → names_view tokens self.new
+            ≡ spec.join (names_view tokens self.old)
+            (spec.names_in (map (tree_view.declaration_view tokens) declarations.now))) }
+    {
+        for declaration in declarations {
+            self.push(declaration)?;
         }
         Ok(())
     }
@@ -110,9 +153,7 @@ impl Names {
             ≡ spec.names_in (map (tree_view.declaration_view tokens) declarations.now)) }
     {
         let mut names = Names::new(alloc);
-        for declaration in declarations {
-            names.push(declaration)?;
-        }
+        names.fill(declarations)?;
         Ok(names)
     }
 }

@@ -5,10 +5,11 @@ use Rattle.canon_blocks.specs.Kept.{made_view}
 use Rattle.canon_values.specs.Items.{Item, PortItem, ValueItem}
 use Rattle.canon_values.specs.declared.item.Item as program
 
-abbrev pub item_view : program.Item → Item
-item_view (program.Item.Port r k) = PortItem r (known_view k)
-item_view (program.Item.Value m) = ValueItem (made_view m)
-
 -- what stands where a declaration was taken out
 abbrev pub nothing : Item
 nothing = ValueItem NoMade
+
+abbrev pub item_view : program.Item → Item
+item_view program.Item.Nothing = nothing
+item_view (program.Item.Port p) = PortItem p.value.name (known_view p.value.known)
+item_view (program.Item.Value m) = ValueItem (made_view m.value)

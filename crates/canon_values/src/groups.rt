@@ -2,16 +2,17 @@
 
 ghost use Rattle.std.specs.Prelude.{◌≡◌, ◌++◌, ◌∷◌, [], ℕ, List, map, slice_index_or, IfOk, OnOk};
 ghost use Rattle.elm_canon.specs.Tree as canon;
-ghost use Rattle.elm_canon.specs.View.{declaration_view};
-ghost use Rattle.canon_blocks.specs.Kept.{made_view, IsOrderOf, left_at, left_after, taken_at};
+ghost use Rattle.elm_canon.specs.View.{declaration_view, function_view, known_view};
+ghost use Rattle.canon_blocks.specs.Blocks.{group_of};
+ghost use Rattle.canon_blocks.specs.Kept.{made_view, one_view, IsOrderOf, left_at, left_after, taken_at};
 ghost use Rattle.canon_values.specs.Items as spec;
 ghost use Rattle.canon_values.specs.Kept.{item_view, nothing};
 
-use crate::item::Item;
+use crate::item::{Item, PortFunction};
 use canon_blocks::groups::{functions_in, one_group};
 use canon_blocks::made::Made;
 use canon_blocks::order::Order;
-use elm_canon::tree::{Declaration, Group};
+use elm_canon::tree::{Declaration, Function, Group};
 use std::alloc::{AllocError, Global};
 use std::mem;
 
@@ -21,9 +22,9 @@ fn take_one(items: &mut Vec<Item>, at: usize) -> Item
     ensures left { map item_view items.new.items ≡ left_at nothing (map item_view items.old.items) at }
 {
     if at < items.len() {
-        mem::replace(&mut items[at], Item::Value(Made::Nothing))
+        mem::replace(&mut items[at], Item::Nothing)
     } else {
-        Item::Value(Made::Nothing)
+        Item::Nothing
     }
 }
 
@@ -32,9 +33,19 @@ fn made_by(item: Item) -> Made
     ensures { made_view result ≡ spec.made_by (item_view item) }
 {
     match item {
-        Item::Port(_name, _known) => Made::Nothing,
-        Item::Value(made) => made,
+        Item::Nothing => Made::Nothing,
+        Item::Port(_port) => Made::Nothing,
+        Item::Value(made) => Box::into_inner(made),
     }
+}
+
+/// Adds the definition that a declaration is.
+fn push_made(taken: &mut Vec<Made>, item: Item) -> Result<(), AllocError>
+    ensures { OnOk result (map made_view taken.new.items
+        ≡ map made_view taken.old.items ++ spec.made_by (item_view item) ∷ []) }
+{
+    taken.push(made_by(item))?;
+    Ok(())
 }
 
 /// Takes out the definitions at places, in turn.
@@ -46,9 +57,55 @@ fn take_each(alloc: Global, items: &mut Vec<Item>, members: &[u32]) -> Result<Ve
 {
     let mut taken = Vec::new(alloc);
     for member in members {
-        taken.push(made_by(take_one(items, *member as usize)))?;
+        let item = take_one(items, *member as usize);
+        push_made(&mut taken, item)?;
     }
     Ok(taken)
+}
+
+/// Adds a declaration.
+fn push(declarations: &mut Vec<Declaration>, declaration: Declaration) -> Result<(), AllocError>
+    ensures { OnOk result (map declaration_view declarations.new.items
+        ≡ map declaration_view declarations.old.items ++ declaration_view declaration ∷ []) }
+{
+    declarations.push(declaration)?;
+    Ok(())
+}
+
+/// Adds a port.
+fn push_port(declarations: &mut Vec<Declaration>, port: Box<PortFunction>) -> Result<(), AllocError>
+    ensures { OnOk result (map declaration_view declarations.new.items
+        ≡ map declaration_view declarations.old.items
+        ++ canon.Given port.value.name (known_view port.value.known) ∷ []) }
+{
+    let PortFunction { name, known } = Box::into_inner(port);
+    push(declarations, Declaration::Given(name, known))
+}
+
+/// Adds a group, if there is one.
+fn push_defined(declarations: &mut Vec<Declaration>, group: Option<Group>) -> Result<(), AllocError>
+    ensures { OnOk result (map declaration_view declarations.new.items
+        ≡ map declaration_view declarations.old.items ++ map canon.Define (one_view group)) }
+{
+    match group {
+        Some(group) => push(declarations, Declaration::Define(group)),
+        None => Ok(()),
+    }
+}
+
+/// Adds the group of one definition, if it makes one.
+fn push_value(
+    alloc: Global,
+    declarations: &mut Vec<Declaration>,
+    made: Box<Made>,
+) -> Result<(), AllocError>
+    ensures { OnOk result (map declaration_view declarations.new.items
+        ≡ map declaration_view declarations.old.items ++ map canon.Define (group_of (made_view made.value ∷ []))) }
+{
+    match one_group(alloc, Box::into_inner(made)) {
+        Ok(group) => push_defined(declarations, group),
+        Err(e) => Err(e),
+    }
 }
 
 /// Adds the group of one declaration, if it makes one.
@@ -61,18 +118,25 @@ fn push_one(
         ≡ map declaration_view declarations.old.items ++ spec.grouped (item_view item ∷ [])) }
 {
     match item {
-        Item::Port(name, known) => {
-            declarations.push(Declaration::Given(name, known))?;
-            Ok(())
-        }
-        Item::Value(made) => match one_group(alloc, made)? {
-            Some(group) => {
-                declarations.push(Declaration::Define(group))?;
-                Ok(())
-            }
-            None => Ok(()),
-        },
+        Item::Nothing => Ok(()),
+        Item::Port(port) => push_port(declarations, port),
+        Item::Value(made) => push_value(alloc, declarations, made),
     }
+}
+
+/// Adds the group of these functions.
+fn push_functions(
+    declarations: &mut Vec<Declaration>,
+    functions: Vec<Function>,
+) -> Result<(), AllocError>
+    ensures { OnOk result (map declaration_view declarations.new.items
+        ≡ map declaration_view declarations.old.items
+        ++ canon.Define (canon.Together (canon.functions_of (map function_view functions.items))) ∷ []) }
+{
+    push(
+        declarations,
+        Declaration::Define(Group::Together(functions)),
+    )
 }
 
 /// Adds the group of the declarations at these places, and takes them out.
@@ -93,7 +157,7 @@ fn push_group(
     }
     let taken = take_each(alloc, items, members)?;
     let functions = functions_in(alloc, taken)?;
-    declarations.push(Declaration::Define(Group::Together(functions)))?;
+    push_functions(declarations, functions)?;
     Ok(())
 }
 

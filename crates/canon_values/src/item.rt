@@ -4,11 +4,19 @@ use canon_blocks::made::Made;
 use elm_canon::reference::Ref;
 use elm_canon::tree::Known;
 
+/// A port, as a function without a body.
+#[derive(Drop)]
+pub struct PortFunction {
+    pub name: Ref,
+    pub known: Known,
+}
+
 /// A declaration.
 #[derive(Drop)]
 pub enum Item {
-    /// A port, as a function without a body.
-    Port(Ref, Known),
-    /// What a definition means. An annotation and a type mean nothing here.
-    Value(Made),
+    /// A type or an annotation, which means nothing here.
+    Nothing,
+    Port(Box<PortFunction>),
+    /// What a definition means.
+    Value(Box<Made>),
 }

@@ -29,6 +29,17 @@ fn push_made_uses(made: &Made, uses: &mut Vec<Ref>) -> Result<(), AllocError>
     }
 }
 
+/// Adds the names of modules that a declaration uses.
+fn push_item_uses(item: &Item, uses: &mut Vec<Ref>) -> Result<(), AllocError>
+    ensures { OnOk result (uses.new.items ≡ uses.old.items ++ spec.item_uses (item_view item.now)) }
+{
+    match item {
+        Item::Nothing => Ok(()),
+        Item::Port(_) => Ok(()),
+        Item::Value(made) => push_made_uses(made, uses),
+    }
+}
+
 /// The declarations that a declaration uses.
 fn used_by(
     alloc: Global,
@@ -42,10 +53,7 @@ fn used_by(
         → All (λ j. j < length each) v.items) }
 {
     let mut uses = Vec::new(alloc);
-    match item {
-        Item::Port(_, _) => {}
-        Item::Value(made) => push_made_uses(made, &mut uses)?,
-    }
+    push_item_uses(item, &mut uses)?;
     numbers.used(alloc, home, &uses)
 }
 

@@ -1,16 +1,21 @@
 //! The values and ports that a module declares.
 
-ghost use Rattle.std.specs.Prelude.{◌≡◌, ◌++◌, map, IfOk, OnOk};
+ghost use Rattle.std.specs.Prelude.{◌≡◌, ◌<◌, ◌^◌, ◌++◌, length, map, IfOk, OnOk};
+ghost use Rattle.std.specs.List.{All};
+ghost use Rattle.decl_groups.specs.Groups.{plain};
 ghost use Rattle.elm_tree.specs.View as tree_view;
 ghost use Rattle.elm_tree.specs.Turns.{tokens_view};
 ghost use Rattle.elm_canon.specs.View.{declaration_view};
 ghost use Rattle.canon_sites.specs.Naming as naming;
 ghost use Rattle.canon_sites.specs.Naming.{IsWorld};
 ghost use Rattle.canon_pattern.specs.Literals.{AreLiterals};
+ghost use Rattle.top_uses.specs.TopUses.{value_names_each};
 ghost use Rattle.canon_values.specs.Items as spec;
 ghost use Rattle.canon_values.specs.Faults.{value_faults};
+ghost use Rattle.canon_values.specs.Kept.{item_view};
 
 use crate::groups::groups_of;
+use crate::item::Item;
 use crate::reaching::note_reaching;
 use crate::uses::used_among;
 use crate::walk::items;
@@ -23,6 +28,25 @@ use elm_names::name::Name;
 use elm_tree::tree::Declaration;
 use std::alloc::{AllocError, Global};
 use top_uses::numbers::Numbers;
+
+/// For each of the declarations the places of those that it uses, by what they mean.
+fn used_in(
+    alloc: Global,
+    tokens: &[Token<'_>],
+    home: &Name,
+    declarations: &[Declaration],
+    items: &[Item],
+) -> Result<Vec<Vec<u32>>, AllocError>
+    ensures count { IfOk result (λ v. length v.items ≡ length items.now) }
+    ensures used { IfOk result (λ v. plain v.items ≡ spec.used_among home.now
+        (value_names_each (map (tree_view.declaration_view (tokens_view tokens.now)) declarations.now))
+        (map item_view items.now)) }
+    ensures within { IfOk result (λ v. All (λ row. All (λ j. j < length declarations.now) row.items) v.items) }
+    ensures few { OnOk result (length declarations.now < 2 ^ 32) }
+{
+    let numbers = Numbers::of(alloc, tokens, declarations)?;
+    used_among(alloc, home, &numbers, items)
+}
 
 /// The groups of the values that the declarations `declarations` of the module `home` declare, each after those that it
 /// uses, with each port among them as a function without a body. The declarations are of the text of the tokens
@@ -47,9 +71,8 @@ pub fn values(
         → log.new.findings.items ≡ log.old.findings.items
         ++ value_faults w (map (tree_view.declaration_view (tokens_view tokens.now)) declarations.now)) }
 {
-    let numbers = Numbers::of(alloc, tokens, declarations)?;
     let items = items(alloc, tokens, home, world, log, declarations)?;
-    let uses = used_among(alloc, home, &numbers, &items)?;
+    let uses = used_in(alloc, tokens, home, declarations, &items)?;
     let order = Order::of(alloc, &uses)?;
     note_reaching(alloc, tokens, log, &order, declarations)?;
     groups_of(alloc, &order, items)

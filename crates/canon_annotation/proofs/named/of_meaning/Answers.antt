@@ -1,11 +1,9 @@
 -- By whether there are as many arguments as parameters: `right_number`, `wrong_number`.
-use Rattle.std.proofs.Common.{length, ap, ◌∙◌, arith}
+use Rattle.std.proofs.Common.{length, refl, ap, arith}
 use Rattle.std.proofs.lemmas.Result.{IfOk-weaker, on_ok_weaker}
 use Rattle.elm_tree.specs.View.{long_view}
 use Rattle.elm_tree.specs.Turns.{tokens_view}
-use Rattle.elm_canon.specs.Tree as plain
 use Rattle.elm_canon.specs.View.{types_view}
-use Rattle.elm_canon.proofs.Views.{named_type}
 use Rattle.canon_env.specs.Shown.{type_meaning_view}
 use Rattle.canon_annotation.proofs.Meanings.{right_number, wrong_number, wrong_means, wrong_faults, union_means, on_ok}
 use Rattle.canon_annotation.proofs.Meanings.{union_faults, alias_means, alias_faults}
@@ -15,37 +13,38 @@ pub returns-then-parameters-len-clause-meaning : goal.returns-then-parameters-le
 returns-then-parameters-len-clause-meaning c =
     let m = type_meaning_view c.args.meant.now.meaning in
     let ts = types_view c.args.arguments.items in
-    IfOk-weaker c.blank.result _ _
+    IfOk-weaker c.no_type.result _ _
     (λ t e. wrong_means c.args.name c.args.meant.now.home m ts _
     (wrong_number m c.args.arguments.items (λ same. omega (arith, ap length c.parameters.ensures))) e)
-    c.blank.ensures
+    c.no_type.ensures.meaning
 
 pub returns-then-parameters-len-clause-faults : goal.returns-then-parameters-len-clause-faults
 returns-then-parameters-len-clause-faults c =
     let m = type_meaning_view c.args.meant.now.meaning in
-    on_ok c.blank.result
-    (wrong_faults (long_view (tokens_view c.args.tokens.now) c.args.word) m (types_view c.args.arguments.items)
-    c.args.findings.now.items c.push.new.self.items c.in_ok-finding_long.field-0
-    (wrong_number m c.args.arguments.items (λ same. omega (arith, ap length c.parameters.ensures)))
-    c.in_ok-push.ensures.items c.in_ok-finding_long.ensures)
+    on_ok_weaker c.no_type.result
+    (λ e. wrong_faults (long_view (tokens_view c.args.tokens.now) c.args.word) m (types_view c.args.arguments.items)
+    c.args.findings.now.items c.no_type.new.findings.items _
+    (wrong_number m c.args.arguments.items (λ same. omega (arith, ap length c.parameters.ensures))) e refl)
+    c.no_type.ensures.faults
 
-pub returns-in_ok-clone-in-Union-clause-meaning : goal.returns-in_ok-clone-in-Union-clause-meaning
-returns-in_ok-clone-in-Union-clause-meaning c =
+pub returns-in-Union-clause-meaning : goal.returns-in-Union-clause-meaning
+returns-in-Union-clause-meaning c =
     let k = c.args.meant.now.meaning in
     let ts = types_view c.args.arguments.items in
-    union_means c.args.name c.args.meant.now.home (long_view (tokens_view c.args.tokens.now) c.args.word) k ts
+    IfOk-weaker c.union_type.result _ _
+    (λ t e. union_means c.args.name c.args.meant.now.home (long_view (tokens_view c.args.tokens.now) c.args.word) k ts
     c.in-Union.field-0 _ c.in-Union.is
-    (right_number (type_meaning_view k) c.args.arguments.items (omega (arith, ap length c.parameters.ensures)))
-    (named_type c.in_ok-clone-in-Union.field-0 c.args.name c.args.arguments
-    ∙ ap (λ z. plain.NamedType z c.args.name ts) c.in_ok-clone-in-Union.ensures.cases)
+    (right_number (type_meaning_view k) c.args.arguments.items (omega (arith, ap length c.parameters.ensures))) e)
+    c.union_type.ensures
 
-pub returns-in_ok-clone-in-Union-clause-faults : goal.returns-in_ok-clone-in-Union-clause-faults
-returns-in_ok-clone-in-Union-clause-faults c =
+pub returns-in-Union-clause-faults : goal.returns-in-Union-clause-faults
+returns-in-Union-clause-faults c =
     let k = c.args.meant.now.meaning in
     let ts = types_view c.args.arguments.items in
-    union_faults c.args.name c.args.meant.now.home (long_view (tokens_view c.args.tokens.now) c.args.word) k ts
+    on_ok c.union_type.result
+    (union_faults c.args.name c.args.meant.now.home (long_view (tokens_view c.args.tokens.now) c.args.word) k ts
     c.in-Union.field-0 c.args.findings.now.items c.in-Union.is
-    (right_number (type_meaning_view k) c.args.arguments.items (omega (arith, ap length c.parameters.ensures)))
+    (right_number (type_meaning_view k) c.args.arguments.items (omega (arith, ap length c.parameters.ensures))))
 
 pub returns-in-Alias-clause-meaning : goal.returns-in-Alias-clause-meaning
 returns-in-Alias-clause-meaning c =

@@ -1,23 +1,6 @@
--- What passes is what is exposed: `shown_through`.
-use Rattle.std.proofs.Common.{◌++◌, ap, ◌∙◌}
-use Rattle.std.specs.List.{filter}
-use Rattle.canon_env.specs.Imports.{exposing_view}
-use Rattle.canon_env.specs.Filter.{filter_value, filter_type, filter_makers}
-use Rattle.canon_env.specs.Shown.{shown_view, unions_view, aliases_view}
-use Rattle.canon_module.specs.Offers.{unions_by, aliases_by}
-use Rattle.canon_module.proofs.Offering.{shown_through}
+-- The filter lets through what is exposed.
+use Rattle.std.proofs.lemmas.Result.{IfOk-weaker}
 use Rattle.canon_module.proofs.shown.shown_by.Goals as goal
 
 pub returns : goal.returns
-returns c =
-    let f = c.in_ok-passing.passing in
-    let given = unions_view c.args.given.now in
-    let by = unions_by (filter_type f) (filter_makers f) in
-    shown_through f (exposing_view c.args.exposes.now) given (shown_view c.args.all.now) c.in_ok-values.field-0.items
-    (unions_view c.push_unions-2.new.unions.items) (aliases_view c.in_ok-aliases.field-0.items) c.in_ok-passing.ensures
-    (c.in_ok-values.ensures ∙ ap (filter (filter_value f)) c.deref-2.ensures.value)
-    (c.in_ok-push_unions-2.ensures
-    ∙ ap (λ z. z ++ by (unions_view c.deref.result.now))
-    (c.in_ok-push_unions.ensures ∙ ap (λ z. unions_view z ++ by given) c.new-unions.ensures.items)
-    ∙ ap (λ z. by given ++ by (unions_view z)) c.deref.ensures.value)
-    (c.in_ok-aliases.ensures ∙ ap (λ z. aliases_by (filter_type f) (aliases_view z)) c.deref-3.ensures.value)
+returns c = IfOk-weaker c.passed.result _ _ (λ s told. told _ c.in_ok-passing.ensures) c.passed.ensures

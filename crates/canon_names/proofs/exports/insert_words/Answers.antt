@@ -20,8 +20,7 @@ loop-word-preserved c = λ x.
     let view = word_view (tokens_view c.args.tokens.now) in
     let before = map name_of (words_view (tokens_view c.args.tokens.now) (take i c.args.words.now)) in
     let old = contains same_name c.args.names.now x in
-    c.in_ok-insert.ensures x
-    ∙ ap (λ n. contains same_name c.loop-word.names x || same_name x n) c.in_ok-word_name.ensures
+    c.in_ok-insert_word.ensures x
     ∙ ap (λ b. b || same_name x (name_of (view y))) (c.loop-word.invariant x)
     ∙ or_assoc old (is_among x before) (same_name x (name_of (view y)))
     ∙ ap (λ b. old || b) (any_next (same_name x) before (name_of (view y))

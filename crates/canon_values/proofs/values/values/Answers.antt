@@ -26,7 +26,7 @@ returns-clause-faults c =
     let uses = plain c.deref-2.result.now in
     let told : uses ≡ top_used w ds =
     top_is w home ds (map item_view c.in_ok-items.items.items) uses named
-    (ap plain c.deref-2.ensures.value ∙ c.in_ok-uses.ensures.used each c.in_ok-numbers.ensures.numbered
+    (ap plain c.deref-2.ensures.value ∙ c.in_ok-uses.ensures.used
     ∙ ap (λ l. used_among home each (map item_view l)) c.deref.ensures.value)
     (c.in_ok-items.ensures.meaning w is named) in
     let many : length uses ≡ length c.args.declarations.now =

@@ -26,10 +26,10 @@ loop-declaration-preserved c =
     let after = option_map annotation_view c.item.new.before in
     record {
       count =
-          omega (arith, c.loop-declaration.invariant.count, ap length c.in_ok-push.ensures.items, length_push old c.in_ok-item.item);
+          omega (arith, c.loop-declaration.invariant.count, ap length c.in_ok-push.ensures, length_push old c.in_ok-item.item);
       meaning = λ w is named.
           ap (λ l. l ++ items_of w after (map view (drop (i + 1) ds)))
-          (pushed item_view old _ _ (map item_view old) _ c.in_ok-push.ensures.items refl refl)
+          (pushed item_view old _ _ (map item_view old) _ c.in_ok-push.ensures refl refl)
           ∙ next_item w view ds i d before after (map item_view old) _ (omega arith) c.declaration-item.is
           (c.in_ok-item.ensures.meaning w is named) (c.in_ok-item.ensures.before w is)
           ∙ c.loop-declaration.invariant.meaning w is named;
