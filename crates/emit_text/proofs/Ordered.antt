@@ -31,11 +31,11 @@ before_by_units xs ys =
 
 -- ---- by insertion
 
-abbrev put : NamedText → List NamedText → List NamedText
+abbrev pub put : NamedText → List NamedText → List NamedText
 put p [] = p ∷ []
 put p (q ∷ qs) = if units_lt q.0 p.0 then q ∷ put p qs else p ∷ q ∷ qs
 
-abbrev put_all : List NamedText → List NamedText
+abbrev pub put_all : List NamedText → List NamedText
 put_all [] = []
 put_all (p ∷ ps) = put p (put_all ps)
 
@@ -64,7 +64,7 @@ field_put k x (MoreField other y fs) =
     ≡ (if b then (other, js_text y) ∷ put (k, js_text x) (fields_list fs) else (k, js_text x) ∷ (other, js_text y) ∷ fields_list fs) in
     elim (units_lt other k) as P [ true ↦ ap (λ (l : List NamedText). (other, js_text y) ∷ l) (field_put k x fs) | false ↦ refl ]
 
-texts_put : (ds : List Declaration) → put_all (in_texts ds) ≡ fields_list (in_decoders ds)
+pub texts_put : (ds : List Declaration) → put_all (in_texts ds) ≡ fields_list (in_decoders ds)
 texts_put [] = refl
 texts_put (Given r (Maker a) ∷ ds) = texts_put ds
 texts_put (Given r (RecordMaker ks) ∷ ds) = texts_put ds

@@ -20,6 +20,7 @@ use Rattle.type_items.specs.Annotations.{annotation_scheme}
 use Rattle.type_items.specs.Scopes.{Known}
 use Rattle.type_items.specs.Modules.{Annotated, union_makers, alias_makers}
 use Rattle.type_items.specs.Inferred.{Schemes}
+use Rattle.scheme_order.specs.Order.{scheme_in_order}
 
 -- ---- the functions of operators
 
@@ -71,9 +72,9 @@ known_by interfaces m x = type_in m (interfaces m) x
 
 abbrev pub value : Name → ℕ → Option Scheme → List Value
 value x n None = []
-value x n (Some s) = record { name = x; parameters = n; scheme = s } ∷ []
+value x n (Some s) = record { name = x; parameters = n; scheme = scheme_in_order s } ∷ []
 
--- a definition with so many parameters, of the type that is told
+-- a definition with so many parameters, of the type that is told, in its one form
 abbrev pub defined_value : Schemes → Ref → ℕ → List Value
 defined_value told (Local x) n = []
 defined_value told (Top m x) n = value x n (told (Top m x))

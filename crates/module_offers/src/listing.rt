@@ -4,7 +4,7 @@ ghost use Rattle.std.specs.Prelude.{◌≡◌, ◌++◌, ◌∷◌, [], map, fla
 ghost use Rattle.elm_canon.specs.Tree.{functions_of};
 ghost use Rattle.elm_canon.specs.View.{declaration_view, function_view, group_view, port_declaration_view};
 ghost use Rattle.elm_canon.specs.View.{module_view};
-ghost use Rattle.elm_type.specs.View.{kind_view, scheme_view};
+ghost use Rattle.elm_type.specs.View.{scheme_view};
 ghost use Rattle.module_offers.specs.Offers as spec;
 ghost use Rattle.module_offers.specs.Offers.{named_by};
 ghost use Rattle.module_offers.specs.View.{values_view};
@@ -15,45 +15,11 @@ use annotation_schemes::written::written_scheme;
 use elm_canon::reference::Ref;
 use elm_canon::tree::{Declaration, Function, Group, Module, PortDeclaration};
 use elm_names::name::Name;
-use elm_type::scheme::{Kind, Scheme};
-use elm_type::{copy, rename};
+use elm_type::rename;
+use elm_type::scheme::Scheme;
 use interface::value::Value;
+use scheme_order::order::scheme_in_order;
 use std::alloc::{AllocError, Global};
-
-/// The same names once more.
-fn copy_names(alloc: Global, names: &[Name]) -> Result<Vec<Name>, AllocError>
-    ensures { IfOk result (λ copies. copies.items ≡ names.now) }
-{
-    let mut copies = Vec::with_capacity(alloc, names.len())?;
-    for name in names {
-        copies.push(name.clone()?)?;
-    }
-    Ok(copies)
-}
-
-/// The same kinds once more.
-fn copy_kinds(alloc: Global, kinds: &[Kind]) -> Result<Vec<Kind>, AllocError>
-    ensures { IfOk result (λ copies. map kind_view copies.items ≡ map kind_view kinds.now) }
-{
-    let mut copies = Vec::with_capacity(alloc, kinds.len())?;
-    for kind in kinds {
-        copies.push(Kind {
-            class: kind.class,
-            lacks: copy_names(alloc, &kind.lacks)?,
-        })?;
-    }
-    Ok(copies)
-}
-
-/// The same scheme once more.
-fn copy_scheme(alloc: Global, scheme: &Scheme) -> Result<Scheme, AllocError>
-    ensures { IfOk result (λ other. scheme_view other ≡ scheme_view scheme.now) }
-{
-    Ok(Scheme {
-        ty: copy(alloc, &scheme.ty)?,
-        kinds: copy_kinds(alloc, &scheme.kinds)?,
-    })
-}
 
 /// Adds a value.
 fn push_value(
@@ -93,7 +59,7 @@ fn push_defined<T: Told, N: Naming>(
             }
             match told.get(name)? {
                 Some(scheme) => {
-                    let scheme = copy_scheme(alloc, scheme)?;
+                    let scheme = scheme_in_order(alloc, scheme)?;
                     push_value(values, own, parameters, scheme)
                 }
                 None => Ok(()),

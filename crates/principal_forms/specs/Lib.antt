@@ -1,0 +1,2 @@
+-- principal types in one form
+pub mod Forms

@@ -1,0 +1,4 @@
+//! What is told of types has one form.
+#![tactic(auto)]
+
+pub mod laws;

@@ -1,0 +1,4 @@
+-- names in ascending order
+pub mod Ascending
+-- what insertion gives
+pub mod Inserted

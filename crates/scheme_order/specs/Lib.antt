@@ -1,0 +1,2 @@
+-- the fields that variables lack, in order
+pub mod Order

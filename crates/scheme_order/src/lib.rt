@@ -1,0 +1,5 @@
+//! Schemes in one form.
+#![tactic(auto)]
+
+pub mod laws;
+pub mod order;
