@@ -4,6 +4,7 @@ use Rattle.std.specs.Prelude.{flat_map}
 use Rattle.decl_groups.proofs.Basics.{no_member}
 use Rattle.elm_canon.specs.Tree.{Group, Module, groups_of}
 use Rattle.elm_type.specs.Types.{Name}
+use Rattle.type_items.specs.Items.{child}
 use Rattle.type_items.specs.Scopes.{Known}
 use Rattle.type_items.specs.Expressions.{definitions}
 use Rattle.type_items.specs.Modules.{known_in, module_definitions, module_scope}
@@ -16,7 +17,7 @@ use Rattle.infer_order.specs.Order.{IsSimple, ordered}
 use Rattle.infer_parts.specs.Formed.{FormedGroups}
 use Rattle.infer_parts.specs.Steps.{CanWalk}
 use Rattle.infer.specs.Middle.{AnnotationsOnce, Starts}
-use Rattle.infer.specs.Modules.{CanInfer}
+use Rattle.infer.specs.Modules.{CanInfer, root}
 use Rattle.infer.specs.Names.{AllTitled, EachOnce, groups_in, names_of}
 use Rattle.infer.proofs.Grouping.{formed_once}
 use Rattle.infer.proofs.Proper.{all_defined, all_titled, proper_once, titled_simple}
@@ -25,7 +26,12 @@ abbrev pub first_code : Known → Code
 first_code known = record { known = known; names = λ x. None; constants = λ a. None }
 
 abbrev pub first_state : State
-first_state = record { store = []; depth = 0; place = [] }
+first_state = record { store = []; depth = 0; place = root }
+
+-- from the root down to its first child
+pub goes_down : (old new : State) → old ≡ record { store = []; depth = 0; place = [] }
+    → new ≡ record old { place = child old.place 0 } → new ≡ first_state
+goes_down old new s e = e ∙ ap (λ (x : State). record x { place = child x.place 0 }) s
 
 can_first : (known : Known) → AreWritten known → CanWalk (first_code known) first_state
 can_first known written = record {

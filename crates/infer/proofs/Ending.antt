@@ -39,6 +39,7 @@ use Rattle.infer_order.specs.Order.{ordered}
 use Rattle.infer_groups.specs.Defined.{Defined, DefinitionsStop}
 use Rattle.infer_groups.specs.Lets.{listed_names}
 use Rattle.infer_groups.proofs.Members.{take_none, take_all}
+use Rattle.infer.specs.Modules.{root}
 use Rattle.infer.specs.Names.{EachOnce, names_of}
 use Rattle.infer.specs.Told.{Typed}
 use Rattle.infer.specs.Middle.{HasTelling, NameIsTold, GroupHas, GroupsHave, Starts, Begun, Middle}
@@ -68,17 +69,17 @@ module _ (begins : ModuleBegins) (on : GoesOn) (module_ : Module) (env : Known) 
   abbrev scope : Scope
   scope = module_scope module_ env
 
-  at_first : ModuleAt module_ env [] (modules.groups_of module_) 0 (first_scope module_ env) [] []
-  at_first = begins module_ env []
+  at_first : ModuleAt module_ env root (modules.groups_of module_) 0 (first_scope module_ env) [] []
+  at_first = begins module_ env root
 
   abbrev places : Region
-  places = span [] 0 (length (modules.groups_of module_))
+  places = span root 0 (length (modules.groups_of module_))
 
   walked : Walk start none [] [] [] new.store []
   walked =
       subst (λ l. Walk start none l [] [] new.store []) (none_around (ordered gs))
       (subst (λ s. Walk start none (around_items (ordered gs) []) s [] new.store []) starts.store
-      (is.walk start [] scope [] starts.setting))
+      (is.walk start [] scope root starts.setting))
 
   passed : Passes start [] [] none []
   passed =
@@ -96,16 +97,16 @@ module _ (begins : ModuleBegins) (on : GoesOn) (module_ : Module) (env : Known) 
       region = either at_first.region none;
       items = at_first.items ++ [];
       inferring =
-          on [] at_first.region none places places at_first.items [] [] new.store [] (none_apart places)
+          on root at_first.region none places places at_first.items [] [] new.store [] (none_apart places)
           (none_inside places) (record { each = λ r e. e }) is.follows.whole at_first.inferring walked passed;
       listed =
           at_first.listed
-          ∙ ap (λ l. l ++ (list_groups (modules.groups_of module_) (first_scope module_ env) [] 0).items)
+          ∙ ap (λ l. l ++ (list_groups (modules.groups_of module_) (first_scope module_ env) root 0).items)
           (sym (append-nil at_first.items));
     };
     setting =
-        subst (λ ds. Setting start [] after (listed_names ds scope []).scope new) same_order
-        (is.setting start [] scope [] starts.setting);
+        subst (λ ds. Setting start [] after (listed_names ds scope root).scope new) same_order
+        (is.setting start [] scope root starts.setting);
     place = is.follows.place ∙ starts.place;
   }
 
@@ -113,7 +114,7 @@ module _ (module_ : Module) (env : Known) (gs : List Group) (code : Code) (old n
     (starts : Starts module_ env gs code old)
     (stop : DefinitionsStop code (λ q. none) (listed_names (ordered gs)) old new bad) where
   -- where annotations stop
-  pub names_stop : FailsAt [] (module_items module_ env []) bad new.store
+  pub names_stop : FailsAt root (module_items module_ env root) bad new.store
   names_stop =
       let scope = module_scope module_ env in
       let first : Fails start [] [] none (around_items (ordered gs) []) bad new.store =
@@ -122,9 +123,9 @@ module _ (module_ : Module) (env : Known) (gs : List Group) (code : Code) (old n
       let there : Fails start [] [] none (around_items (modules.ordered module_) []) bad new.store =
       subst (λ ds. Fails start [] [] none (around_items ds []) bad new.store) (ap in_written_order starts.groups) first
       in
-      let rest = (list_groups (modules.groups_of module_) (first_scope module_ env) [] 0).items in
-      (fails_earlier start [] [] none (below []) (around_items (modules.ordered module_) []) rest bad new.store
-      (none_inside (below [])) there).each [] none [] (start_ready [])
+      let rest = (list_groups (modules.groups_of module_) (first_scope module_ env) root 0).items in
+      (fails_earlier start [] [] none (below root) (around_items (modules.ordered module_) []) rest bad new.store
+      (none_inside (below root)) there).each root none [] (start_ready root)
 
 -- no group yet
 
@@ -135,7 +136,7 @@ none_yet module_ env gs code state b = record {
   known = refl;
   tellings = [];
   at =
-      subst (λ l. ModuleAt module_ env [] l 0 (first_scope module_ env) state.store [])
+      subst (λ l. ModuleAt module_ env root l 0 (first_scope module_ env) state.store [])
       (sym (drop_none (modules.groups_of module_))) b.at;
   setting = b.setting;
   place = b.place;
@@ -158,33 +159,33 @@ module _ (module_ : Module) (env : Known) (k : ℕ) (g : List Definition) (code 
     bad)
     (at_k : slice_get (modules.groups_of module_) k ≡ Some g) where
   abbrev q : Place
-  q = child [] k
+  q = child root k
 
   abbrev left : List (List Definition)
   left = drop (k + 1) (modules.groups_of module_)
 
-  at_group : ModuleAt module_ env [] (g ∷ left) k mid.scope old.store mid.tellings
+  at_group : ModuleAt module_ env root (g ∷ left) k mid.scope old.store mid.tellings
   at_group =
-      subst (λ l. ModuleAt module_ env [] l k mid.scope old.store mid.tellings)
+      subst (λ l. ModuleAt module_ env root l k mid.scope old.store mid.tellings)
       (cut (modules.groups_of module_) k g at_k) mid.at
 
-  inside : Inside (group_places q) (span [] k (length (g ∷ left)))
+  inside : Inside (group_places q) (span root k (length (g ∷ left)))
   inside =
-      either_inside (only q) (below q) (span [] k (length (g ∷ left)))
-      (child_in_span [] k (length (g ∷ left)) k (omega arith) (omega arith))
-      (below_in_span [] k (length (g ∷ left)) k (omega arith) (omega arith))
+      either_inside (only q) (below q) (span root k (length (g ∷ left)))
+      (child_in_span root k (length (g ∷ left)) k (omega arith) (omega arith))
+      (below_in_span root k (length (g ∷ left)) k (omega arith) (omega arith))
 
-  pub group_stops : FailsAt [] (module_items module_ env []) bad new.store
+  pub group_stops : FailsAt root (module_items module_ env root) bad new.store
   group_stops =
       let items = (list_group g mid.scope q).items in
-      let rest = (list_groups left (list_group g mid.scope q).scope [] (k + 1)).items in
+      let rest = (list_groups left (list_group g mid.scope q).scope root (k + 1)).items in
       let there : Fails start old.store [] (group_places q) items bad new.store =
       subst (λ p. Fails start old.store [] (group_places (child p k)) (list_group g mid.scope (child p k)).items bad
       new.store) mid.place (stop.fails start [] mid.scope mid.setting) in
-      subst (λ l. FailsAt [] l bad new.store) (sym at_group.listed)
-      ((fails_earlier start old.store [] (group_places q) (span [] k (length (g ∷ left))) items rest bad new.store
+      subst (λ l. FailsAt root l bad new.store) (sym at_group.listed)
+      ((fails_earlier start old.store [] (group_places q) (span root k (length (g ∷ left))) items rest bad new.store
       inside
-      there).each [] at_group.region at_group.items at_group.inferring.ready)
+      there).each root at_group.region at_group.items at_group.inferring.ready)
 
 -- ---- the end
 
@@ -229,11 +230,11 @@ module _ (told : List Typed) (tellings : List Telling) (schemes : Schemes)
   group_has known q (Some a) ds h = definitions_have (rename (annotation_scheme a)) ds h
 
   groups_have : (known : Known) (gs : List (ℕ × List Definition)) → GroupsHave tellings told known gs
-      → AllByRecursion (λ (g : ℕ × List Definition). GroupHasTold tellings schemes known (child [] g.0)
+      → AllByRecursion (λ (g : ℕ × List Definition). GroupHasTold tellings schemes known (child root g.0)
       (first_annotation g.1) g.1) gs
   groups_have known [] h = tt
   groups_have known (g ∷ gs) h =
-      (group_has known (child [] g.0) (first_annotation g.1) g.1 h.0, groups_have known gs h.1)
+      (group_has known (child root g.0) (first_annotation g.1) g.1 h.0, groups_have known gs h.1)
 
 drop_all : {X : Type 0} (xs : List X) → drop (length xs) xs ≡ []
 drop_all [] = refl
@@ -253,10 +254,10 @@ module _ (ends : ModuleEnds) (module_ : Module) (env : Known) (k : ℕ) (code : 
   names_once =
       subst EachOnce (sym (mid.names ∙ ap (flat_map names_of) taken)) (groups_once (module_definitions module_) once)
 
-  pub all_inferred : Inferred module_ env [] schemes
+  pub all_inferred : Inferred module_ env root schemes
   all_inferred =
-      ends module_ env [] k mid.scope state.store mid.tellings schemes whole
-      (subst (λ l. ModuleAt module_ env [] l k mid.scope state.store mid.tellings)
+      ends module_ env root k mid.scope state.store mid.tellings schemes whole
+      (subst (λ l. ModuleAt module_ env root l k mid.scope state.store mid.tellings)
       (ap (λ n. drop n groups) (sym all) ∙ drop_all groups) mid.at)
       (groups_have told mid.tellings schemes names_once is (known_in module_ env) (enumerate_from 0 groups)
       (subst (λ l. GroupsHave mid.tellings told (known_in module_ env) (enumerate_from 0 l)) taken mid.have))

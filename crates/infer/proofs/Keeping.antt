@@ -11,6 +11,7 @@ use Rattle.type_items.specs.Annotations.{annotation_scheme}
 use Rattle.type_items.specs.Definitions.{Definition, group_types}
 use Rattle.type_items.specs.Inferred.{first_annotation}
 use Rattle.type_answers.specs.Lasting.{Telling}
+use Rattle.infer.specs.Modules.{root}
 use Rattle.infer.specs.Told.{Typed}
 use Rattle.infer.specs.Middle.{HasTelling, NameIsTold, GroupHas, GroupsHave}
 
@@ -53,4 +54,4 @@ module _ (ts ts' : List Telling) (ms ms' : List Typed) (more : (t : Telling) →
       → GroupsHave ts' ms' known gs
   groups_still known [] h = tt
   groups_still known (g ∷ gs) h =
-      (group_still known (child [] g.0) (first_annotation g.1) g.1 h.0, groups_still known gs h.1)
+      (group_still known (child root g.0) (first_annotation g.1) g.1 h.0, groups_still known gs h.1)

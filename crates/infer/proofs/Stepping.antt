@@ -40,6 +40,7 @@ use Rattle.infer_annotations.proofs.Topmost.{kept_is_scheme, kept_is_written}
 use Rattle.infer_order.specs.Order.{IsTitled}
 use Rattle.infer_groups.specs.Members.{AreNamed, GroupAt}
 use Rattle.infer_groups.proofs.Members.{take_one, take_count}
+use Rattle.infer.specs.Modules.{root}
 use Rattle.infer.specs.Names.{names_of}
 use Rattle.infer.specs.Told.{Typed, NamesTold, IsToldAs, GroupIsTold, written_types}
 use Rattle.infer.specs.Middle.{GroupHas, GroupsHave, Middle}
@@ -129,7 +130,7 @@ module _ (goes_on : ModuleGoesOn) (tells : ModuleTells) (read : ReadIsTold) (in_
     (is : GroupIsTold code after g k old new before told) (at_k : slice_get (groups_of module_) k ≡ Some g)
     (fine : AllByRecursion IsFine g) where
   abbrev q : Place
-  q = child [] k
+  q = child root k
 
   abbrev left : List (List Definition)
   left = drop (k + 1) (groups_of module_)
@@ -143,13 +144,13 @@ module _ (goes_on : ModuleGoesOn) (tells : ModuleTells) (read : ReadIsTold) (in_
   abbrev the_items : List Item
   the_items = (list_group g mid.scope q).items
 
-  at_group : ModuleAt module_ env [] (g ∷ left) k mid.scope old.store mid.tellings
+  at_group : ModuleAt module_ env root (g ∷ left) k mid.scope old.store mid.tellings
   at_group =
-      subst (λ l. ModuleAt module_ env [] l k mid.scope old.store mid.tellings) (cut (groups_of module_) k g at_k)
+      subst (λ l. ModuleAt module_ env root l k mid.scope old.store mid.tellings) (cut (groups_of module_) k g at_k)
       mid.at
 
   walked : Walk start (group_places q) the_items old.store [] new.store []
-  walked = is.defined.walk start [] mid.scope [] mid.setting
+  walked = is.defined.walk start [] mid.scope root mid.setting
 
   passed : Passes start old.store [] (group_places q) the_items
   passed =
@@ -157,7 +158,7 @@ module _ (goes_on : ModuleGoesOn) (tells : ModuleTells) (read : ReadIsTold) (in_
       mid.place (is.defined.passes start [] mid.scope mid.setting)
 
   set_after : Setting start [] after after_scope new
-  set_after = is.defined.setting start [] mid.scope [] mid.setting
+  set_after = is.defined.setting start [] mid.scope root mid.setting
 
   enumerate_more : enumerate_from 0 (take (k + 1) (groups_of module_))
       ≡ enumerate_from 0 (take k (groups_of module_)) ++ (k, g) ∷ []
@@ -178,7 +179,7 @@ module _ (goes_on : ModuleGoesOn) (tells : ModuleTells) (read : ReadIsTold) (in_
 
   -- with what was told of the group
   with_more : (more : List Typed) (tellings : List Telling)
-      → ModuleAt module_ env [] left (k + 1) after_scope new.store (mid.tellings ++ tellings)
+      → ModuleAt module_ env root left (k + 1) after_scope new.store (mid.tellings ++ tellings)
       → map (λ (t : Typed). t.0) more ≡ names_of g
       → AllByRecursion (λ (t : Typed). IsWritten t.1.kinds t.1) more
       → GroupHas (mid.tellings ++ tellings) (before ++ more) known q (first_annotation g) g
@@ -193,7 +194,7 @@ module _ (goes_on : ModuleGoesOn) (tells : ModuleTells) (read : ReadIsTold) (in_
     have =
         subst (GroupsHave (mid.tellings ++ tellings) (before ++ more) known) (sym enumerate_more)
         (all_both (λ (g : ℕ × List Definition). GroupHas (mid.tellings ++ tellings) (before ++ more) known
-        (child [] g.0)
+        (child root g.0)
         (first_annotation g.1) g.1) (enumerate_from 0 (take k (groups_of module_))) ((k, g) ∷ [])
         (groups_still mid.tellings (mid.tellings ++ tellings) before (before ++ more)
         (λ t c. Contains-append_left mid.tellings tellings t c) (λ t c. Contains-append_left before more t c) known
@@ -243,18 +244,18 @@ module _ (goes_on : ModuleGoesOn) (tells : ModuleTells) (read : ReadIsTold) (in_
           (subst (λ l. Walk (deeper start) (below q) l old.store [] n.inner.store links)
           (sym (none_items g mid.scope q none)) at_q.walk))
 
-      at_next : ModuleAt module_ env [] left (k + 1) after_scope new.store (mid.tellings ++ new_tellings)
+      at_next : ModuleAt module_ env root left (k + 1) after_scope new.store (mid.tellings ++ new_tellings)
       at_next =
-          tells module_ env [] g left k mid.scope old.store new.store links mid.tellings new_tellings whole at_group
+          tells module_ env root g left k mid.scope old.store new.store links mid.tellings new_tellings whole at_group
           walked inside passed (all_told read in_order new.store whole links n.names entries more named n.each)
 
   -- one with an annotation
   annotated : (a : Annotation) (more : List Typed) → first_annotation g ≡ Some a → more ≡ written_types a g
       → Middle module_ env (k + 1) after new (before ++ more)
   annotated a more some e =
-      with_more more [] (subst (ModuleAt module_ env [] left (k + 1) after_scope new.store)
+      with_more more [] (subst (ModuleAt module_ env root left (k + 1) after_scope new.store)
       (sym (append-nil mid.tellings))
-      (goes_on module_ env [] g left k mid.scope old.store new.store mid.tellings is.defined.follows.whole at_group
+      (goes_on module_ env root g left k mid.scope old.store new.store mid.tellings is.defined.follows.whole at_group
       walked
       passed))
       (ap (map (λ (t : Typed). t.0)) e ∙ names_as scheme (names_of g))

@@ -21,6 +21,7 @@ use Rattle.infer_base.specs.Codes.{Code, State}
 use Rattle.infer_base.specs.Means.{Setting}
 use Rattle.infer_base.specs.Ready.{IsWritten}
 use Rattle.infer_declared.specs.Titles.{AnnotationOnce}
+use Rattle.infer.specs.Modules.{root}
 use Rattle.infer.specs.Names.{names_of}
 use Rattle.infer.specs.Told.{Typed}
 
@@ -44,7 +45,7 @@ GroupHas tellings told known q (Some a) ds =
 
 abbrev pub GroupsHave : List Telling → List Typed → Known → List (ℕ × List Definition) → Type 0
 GroupsHave tellings told known groups =
-    AllByRecursion (λ g. GroupHas tellings told known (child [] g.0) (first_annotation g.1) g.1) groups
+    AllByRecursion (λ g. GroupHas tellings told known (child root g.0) (first_annotation g.1) g.1) groups
 
 -- ---- so many groups
 
@@ -53,23 +54,23 @@ pub record Starts (module_ : Module) (env : Known) (gs : List Group) (code : Cod
   pub groups : definitions (groups_of gs) ≡ module_definitions module_
   pub setting : Setting start [] code (module_scope module_ env) state
   pub store : state.store ≡ []
-  pub place : state.place ≡ []
+  pub place : state.place ≡ root
 
 -- the names with annotations are in scope, and no group was walked
 pub record Begun (module_ : Module) (env : Known) (gs : List Group) (code : Code) (state : State) : Type 0 where
   pub groups : definitions (groups_of gs) ≡ module_definitions module_
-  pub at : ModuleAt module_ env [] (modules.groups_of module_) 0 (first_scope module_ env) state.store []
+  pub at : ModuleAt module_ env root (modules.groups_of module_) 0 (first_scope module_ env) state.store []
   pub setting : Setting start [] code (first_scope module_ env) state
-  pub place : state.place ≡ []
+  pub place : state.place ≡ root
 
 -- so many groups were walked, and these types were told
 pub record Middle (module_ : Module) (env : Known) (k : ℕ) (code : Code) (state : State) (told : List Typed) : Type 0 where
   pub scope : Scope
   pub known : scope.known ≡ known_in module_ env
   pub tellings : List Telling
-  pub at : ModuleAt module_ env [] (drop k (modules.groups_of module_)) k scope state.store tellings
+  pub at : ModuleAt module_ env root (drop k (modules.groups_of module_)) k scope state.store tellings
   pub setting : Setting start [] code scope state
-  pub place : state.place ≡ []
+  pub place : state.place ≡ root
   pub have : GroupsHave tellings told (known_in module_ env) (enumerate_from 0 (take k (modules.groups_of module_)))
   pub names : map (λ t. t.0) told ≡ flat_map names_of (take k (modules.groups_of module_))
   pub written : AllByRecursion (λ t. IsWritten t.1.kinds t.1) told
@@ -84,4 +85,4 @@ AnnotationsOnce ds = AllByRecursion (λ d. AnnotationOnce d.annotation) ds
 
 pub record StopsSomewhere (bad : Bad) (s : Store) : Type 0 where
   pub items : List Item
-  pub fails : FailsAt [] items bad s
+  pub fails : FailsAt root items bad s

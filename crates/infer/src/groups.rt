@@ -1,6 +1,6 @@
 //! The type groups of a module, one after another.
 
-ghost use Rattle.std.specs.Prelude.{◌≡◌, ◌<◌, ℕ, List, [], Err, Some, None, length, map, slice_get, IfOk, OnOk};
+ghost use Rattle.std.specs.Prelude.{◌≡◌, ◌<◌, ℕ, List, Err, Some, None, length, map, slice_get, IfOk, OnOk};
 ghost use Rattle.elm_canon.specs.Tree.{Module as PlainModule, groups_of};
 ghost use Rattle.elm_canon.specs.View.{group_view};
 ghost use Rattle.type_items.specs.Definitions.{Definition, type_groups};
@@ -22,6 +22,7 @@ ghost use Rattle.infer_order.specs.Order.{IsOrder, IsSimple, ordered};
 ghost use Rattle.infer_parts.specs.Formed.{FormedGroups};
 ghost use Rattle.infer_parts.specs.Steps.{CanWalk};
 ghost use Rattle.infer.specs.Middle.{AnnotationsOnce, Begun, Middle, Starts};
+ghost use Rattle.infer.specs.Modules.{root};
 ghost use Rattle.infer.specs.Names.{AllTitled};
 ghost use Rattle.infer.specs.Told.{GroupIsTold, told_views};
 
@@ -122,7 +123,7 @@ fn infer_groups(
         (told_views told.items)) }
     ensures stopped { (b : Bad) → result ≡ Err (error.Bad b) → (module_ : PlainModule) (env : PlainKnown)
         → Begun module_ env (map (λ g. group_view g.now) groups.now) (code_of scope.old) (here state.old)
-        → FailsAt [] (module_items module_ env []) (bad_view b) (here state.new).store }
+        → FailsAt root (module_items module_ env root) (bad_view b) (here state.new).store }
 {
     module_law();
     reading_law();
@@ -158,7 +159,7 @@ pub(crate) fn infer_definitions(
         (told_views told.items)) }
     ensures stopped { (b : Bad) → result ≡ Err (error.Bad b) → (module_ : PlainModule) (env : PlainKnown)
         → Starts module_ env (map (λ g. group_view g.now) groups.now) (code_of scope.old) (here state.old)
-        → FailsAt [] (module_items module_ env []) (bad_view b) (here state.new).store }
+        → FailsAt root (module_items module_ env root) (bad_view b) (here state.new).store }
 {
     module_law();
     inference_law();

@@ -1,6 +1,6 @@
 //! Inference of the types of a module.
 
-ghost use Rattle.std.specs.Prelude.{◌≡◌, List, [], Err, IfOk};
+ghost use Rattle.std.specs.Prelude.{◌≡◌, List, Err, IfOk};
 ghost use Rattle.std.specs.Map.{lookup};
 ghost use Rattle.elm_canon.specs.Names.{same_ref};
 ghost use Rattle.elm_canon.specs.View.{module_view};
@@ -13,7 +13,7 @@ ghost use Rattle.infer_base.specs.Ready.{AreWritten};
 ghost use Rattle.infer_base.specs.View.{bad_view, here, known_view};
 ghost use Rattle.infer_faults.specs.declared.explain.Said.{Said as PlainSaid};
 ghost use Rattle.infer.specs.Middle.{StopsSomewhere};
-ghost use Rattle.infer.specs.Modules.{CanInfer};
+ghost use Rattle.infer.specs.Modules.{CanInfer, root};
 ghost use Rattle.infer.specs.Told.{told_views};
 ghost use Rattle.infer.specs.Types.{schemes_of, SchemesWritten};
 ghost use Rattle.infer.specs.declared.infer.Stop.TheVariants as stop;
@@ -70,8 +70,8 @@ fn table(alloc: Global, told: Vec<Told>) -> Result<Types, AllocError>
 /// What is said of the bad item `bad`, at which the items of a module stop.
 fn refusal(alloc: Global, state: &mut State, bad: &Bad) -> Result<Said, AllocError>
     requires { StopsSomewhere (bad_view bad.now) (here state.old).store }
-    ensures { IfOk result (λ said. (items : List Item) → FailsAt [] items (bad_view bad.now) (here state.old).store
-        → FirstBad [] items said.code said.position said.text.items) }
+    ensures { IfOk result (λ said. (items : List Item) → FailsAt root items (bad_view bad.now) (here state.old).store
+        → FirstBad root items said.code said.position said.text.items) }
 {
     stop_law();
     refusal_law();
@@ -86,16 +86,17 @@ pub fn infer(alloc: Global, module: &Module, env: Known) -> Result<Types, Stop>
     requires module { CanInfer (module_view module.now) }
     requires env { AreWritten (known_view env) }
     ensures inferred { IfOk result (λ types.
-        Inferred (module_view module.now) (known_view env) [] (schemes_of types)) }
+        Inferred (module_view module.now) (known_view env) root (schemes_of types)) }
     ensures written { IfOk result (λ types. SchemesWritten (schemes_of types)) }
     ensures refused { (f : PlainSaid) → result ≡ Err (stop.Refused f)
-        → Refused (module_view module.now) (known_view env) [] f.code f.position f.text.items }
+        → Refused (module_view module.now) (known_view env) root f.code f.position f.text.items }
 {
     known_law();
     module_law();
     let known = with_own_types(alloc, module, env)?;
     let mut scope = Scope::new(alloc, known);
     let mut state = State::new(alloc);
+    state.enter(0)?;
     let groups = module_groups(alloc, &module.declarations)?;
     let order = order_of(alloc, &groups)?;
     match infer_definitions(alloc, &mut state, &mut scope, &groups, &order) {

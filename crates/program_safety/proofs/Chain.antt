@@ -34,12 +34,12 @@ use Rattle.typed_values.proofs.Names.{not_both, not_or, same_refs}
 use Rattle.typed_values.proofs.Envs.{agree_refl}
 use Rattle.typed_values.proofs.SampleFrame.{sample_stands}
 use Rattle.exhaustive_matches.proofs.Sound.{steps_keep_types}
-use Rattle.type_safety.specs.Modules.{groups_in, given_in, scope_after, before_own}
+use Rattle.type_safety.specs.Modules.{groups_in, given_in, scope_after}
 use Rattle.type_safety.proofs.Modules.{given_serves, declared_definitions}
 use Rattle.type_safety.proofs.Stagings.{AllNamed, listed_scope, last_alike, alike_back, agree_alike}
 use Rattle.type_safety.proofs.Lets.{one_types_annotated, Hs, T, Last, same_before, among_append, among_front}
 use Rattle.type_safety.proofs.Transfers.{Carried, Transfer, fits_carried, fits_shown}
-use Rattle.type_safety.proofs.Progress.{then_well, part_good, top_named}
+use Rattle.type_safety.proofs.Progress.{then_well, part_from, top_named}
 use Rattle.program_safety.specs.Parts.{Part, IsOf, IsNotOf, AreSome, IsInstanceOf, bound_with, none_but, IsPart}
 use Rattle.program_safety.specs.Parts.{AreParts, all_declared, bound_after, ArePrimitives, primitive_names}
 
@@ -199,6 +199,10 @@ module _ (w : World) (sound : IsSound w) (told : Known) (known_told : KnownIn w 
   abbrev U : Ref → Bool
   U = none_but (bound_with ds before)
 
+  -- what is hidden before its declarations are bound
+  abbrev unbound : Ref → Bool
+  unbound y = defines (definitions (groups_in ds)) y || (among y (given_in ds) || U y)
+
   same : es ≡ definitions (groups_in m.declarations)
   same = declared_definitions m.declarations
 
@@ -219,37 +223,13 @@ module _ (w : World) (sound : IsSound w) (told : Known) (known_told : KnownIn w 
       go true is f again = subst (IsOf m.name) (sym (same_refs y x is)) h.0
       go false is f again = again f
 
-  given_others : (xs : List Ref) (y : Ref) → Without (defines (definitions (groups_in m.declarations))) xs → among y xs ≡ true → defines es y ≡ false
-  given_others [] y h e = not_both false e refl
-  given_others (x ∷ xs) y h e = go (same_ref y x) refl e (given_others xs y h.1)
-    where
-      go : (b : Bool) → same_ref y x ≡ b → (if b then true else among y xs) ≡ true → (among y xs ≡ true → defines es y ≡ false) → defines es y ≡ false
-      go true is f again = subst (λ z. defines es z ≡ false) (sym (same_refs y x is)) (ap (λ z. defines z x) same ∙ h.0)
-      go false is f again = again f
-
-  -- what was bound before is not of the module
-  past : (y : Ref) → before y ≡ true → defines es y ≡ false
-  past y e = go (defines es y) refl
+  -- what is of another module the module does not define
+  past : (y : Ref) → IsNotOf m.name y → defines es y ≡ false
+  past y n = go (defines es y) refl
     where
       go : (b : Bool) → defines es y ≡ b → b ≡ false
-      go true is = of_one m.name y (own y is) (is_part.elsewhere y e)
+      go true is = of_one m.name y (own y is) n
       go false is = refl
-
-  covers : (y : Ref) → U y ≡ false → defines (definitions (groups_in ds)) y ≡ false → defines es y ≡ false
-  covers (Local x) shown none = go (defines es (Local x)) refl
-    where
-      go : (b : Bool) → defines es (Local x) ≡ b → b ≡ false
-      go true is = absurd (own (Local x) is)
-      go false is = refl
-  covers (Top h x) shown none =
-      let y = Top h x in
-      elim (or_split (before y) (among y (given_in ds) || defines (definitions (groups_in ds)) y) (not_false (bound_with ds before y) shown)) [
-        | inl e ↦ past y e
-        | inr f ↦ elim (or_split (among y (given_in ds)) (defines (definitions (groups_in ds)) y) f) [
-          | inl g ↦ given_others (given_in ds) y is_part.others g
-          | inr d ↦ not_both (defines (definitions (groups_in ds)) y) d none
-        ]
-      ]
 
   -- of other modules the scope knows what is told
   known_else : (y : Ref) → IsNotOf m.name y → entry_of S y ≡ entry_of (told_scope told) y
@@ -259,27 +239,6 @@ module _ (w : World) (sound : IsSound w) (told : Known) (known_told : KnownIn w 
       go : (b : Bool) → bytes_eq k m.name ≡ b → option_map (λ s. Instance s) (known_in m told k x) ≡ option_map (λ s. Instance s) (told k x)
       go true e = absurd (n ((bytes_eq-Decides k m.name).0 e))
       go false e = ap (λ b. option_map (λ s. Instance s) (if b then option_map annotation_scheme (entry_at (bytes_eq x) (declared m)) else told k x)) e
-
-  -- to the module: what was told before
-  to_module : Transfer (told_scope told) sample_frame S a (none_but before) (before_own m ds U)
-  to_module (Local x) n = record { shown = refl; carried = λ entry found. absurd (let z : None ≡ Some entry = found in cc) }
-  to_module (Top k0 x) n =
-      let y = Top k0 x in
-      let o = not_or (defines es y) (among y (given_in ds) || U y) n in
-      let q = not_or (among y (given_in ds)) (U y) o.1 in
-      let early : before y ≡ true = elim (or_split (before y) (among y (given_in ds) || defines (definitions (groups_in ds)) y) (not_false (bound_with ds before y) q.1)) [
-        | inl e ↦ e
-        | inr f ↦ elim (or_split (among y (given_in ds)) (defines (definitions (groups_in ds)) y) f) [
-          | inl g ↦ not_both (among y (given_in ds)) g q.0
-          | inr d ↦ not_both (defines es y) (defined_here y d) o.0
-        ]
-      ] in record {
-        shown = none_bound before y early;
-        carried = λ entry found.
-            let i = told_instance (known_in m told) y entry found in
-            let e : entry_of (told_scope told) y ≡ Some (Instance i.scheme) = sym (known_else y (is_part.elsewhere y early)) ∙ (found ∙ ap (λ z. Some z) i.is) in
-            subst (Carried (told_scope told) sample_frame S a y) (sym i.is) (instance_carried (told_scope told) S sample_frame a y i.scheme e (λ k. record { types = tt; constants = tt }));
-      }
 
   abbrev R : Scope
   R = scope_after m told t.place
@@ -295,6 +254,55 @@ module _ (w : World) (sound : IsSound w) (told : Known) (known_told : KnownIn w 
       } in
       subst (λ z. Agree z a k) (sym (listed_scope H T0 t.place 0)) (agree_alike (Last w es S t.place a) T0 a k (alike_back T0 (Last w es S t.place a) (last_alike H T0)) plain)
 
+  named : AllNamed (known_in m told) es
+  named = subst (AllNamed (known_in m told)) (sym same) (top_named w (steps_keep_types w sound) (groups_in m.declarations) (known_in m told) is_part.titled)
+
+  same_after : (y : Ref) → defines es y ≡ false → entry_of R y ≡ entry_of S y
+  same_after y n =
+      ap (λ z. entry_of z y) (listed_scope (Hs w es S t.place a) (T w es S t.place a) t.place 0)
+      ∙ same_before w es S t.place a refl named y n
+
+  known_after : KnownIn w R.known
+  known_after =
+      subst (KnownIn w) (sym (ap (λ z. z.known) (listed_scope (Hs w es S t.place a) (T w es S t.place a) t.place 0) ∙ (last_alike (Hs w es S t.place a) (T w es S t.place a)).known)) is_part.known
+
+  -- to the module: what was told before
+  to_module : Transfer (told_scope told) sample_frame R a (none_but before) unbound
+  to_module (Local x) n = record {
+    shown = refl;
+    carried = λ entry found.
+        absurd (let z : None ≡ Some entry = sym (same_after (Local x) (past (Local x) tt)) ∙ found in cc);
+  }
+  to_module (Top k0 x) n =
+      let y = Top k0 x in
+      let o = not_or (defines (definitions (groups_in ds)) y) (among y (given_in ds) || U y) n in
+      let q = not_or (among y (given_in ds)) (U y) o.1 in
+      let early : before y ≡ true = elim (or_split (before y) (among y (given_in ds) || defines (definitions (groups_in ds)) y) (not_false (bound_with ds before y) q.1)) [
+        | inl e ↦ e
+        | inr f ↦ elim (or_split (among y (given_in ds)) (defines (definitions (groups_in ds)) y) f) [
+          | inl g ↦ not_both (among y (given_in ds)) g q.0
+          | inr d ↦ not_both (defines (definitions (groups_in ds)) y) d o.0
+        ]
+      ] in record {
+        shown = none_bound before y early;
+        carried = λ entry found. elim (is_part.elsewhere y early) [
+          | inl other ↦ (
+              let inner : entry_of S y ≡ Some entry = sym (same_after y (past y other)) ∙ found in
+              let i = told_instance (known_in m told) y entry inner in
+              let e : entry_of (told_scope told) y ≡ Some (Instance i.scheme) = sym (known_else y other) ∙ (inner ∙ ap (λ z. Some z) i.is) in
+              subst (Carried (told_scope told) sample_frame R a y) (sym i.is) (instance_carried (told_scope told) R sample_frame a y i.scheme e (λ k. record { types = tt; constants = tt })))
+          | inr own ↦ (
+              let e : Instance own.inside ≡ entry = (let z : Some (Instance own.inside) ≡ Some entry = sym own.is ∙ found in cc) in
+              subst (Carried (told_scope told) sample_frame R a y) e (record {
+                other = Instance own.scheme;
+                is = ap (λ o. option_map (λ s. Instance s) o) own.told_is;
+                serves = λ P h g choice stands agree chosen. (
+                    let r = own.instances g choice stands chosen in
+                    subst P r.2 (h g r.0 stands (record { types = tt; constants = tt }) r.1));
+              }))
+        ];
+      }
+
   -- from the module: what it tells, and what was told before
   served : (P : Ground → Type 0) (entry : Entry) (s : Scheme) → ((f : Frame) (choice : ℕ → Ground) → Stands f → Chosen s choice → IsInstanceOf entry (ground_instance choice f s)) → Serves P entry R a
       → Serves P (Instance s) (told_scope told) sample_frame
@@ -305,14 +313,6 @@ module _ (w : World) (sound : IsSound w) (told : Known) (known_told : KnownIn w 
   served P (General list type) s each h = λ f choice stands agree chosen.
       let i = each f choice stands chosen in
       subst P i.4 (h i.1 i.0 i.2 (nothing_fixed i.0) i.3)
-
-  named : AllNamed (known_in m told) es
-  named = subst (AllNamed (known_in m told)) (sym same) (top_named w (steps_keep_types w sound) (groups_in m.declarations) (known_in m told) is_part.titled)
-
-  same_after : (y : Ref) → defines es y ≡ false → entry_of R y ≡ entry_of S y
-  same_after y n =
-      ap (λ z. entry_of z y) (listed_scope (Hs w es S t.place a) (T w es S t.place a) t.place 0)
-      ∙ same_before w es S t.place a refl named y n
 
   is_own : (y : Ref) → (among y (given_in ds) || defines (definitions (groups_in ds)) y) ≡ true → IsOf m.name y
   is_own y f = elim (or_split (among y (given_in ds)) (defines (definitions (groups_in ds)) y) f) [
@@ -335,8 +335,11 @@ module _ (w : World) (sound : IsSound w) (told : Known) (known_told : KnownIn w 
     carried = λ entry found. (let i = told_instance told y entry found in
         subst (Carried R a (told_scope told) sample_frame y) (sym i.is)
         (elim (or_split (before y) (among y (given_in ds) || defines (definitions (groups_in ds)) y) (not_false (bound_with ds before y) n)) [
-          | inl e ↦ (let f : entry_of R y ≡ Some (Instance i.scheme) = same_after y (past y e) ∙ (known_else y (is_part.elsewhere y e) ∙ (found ∙ ap (λ z. Some z) i.is)) in
-              instance_carried R (told_scope told) a sample_frame y i.scheme f nothing_fixed)
+          | inl e ↦ elim (is_part.elsewhere y e) [
+            | inl other ↦ (let f : entry_of R y ≡ Some (Instance i.scheme) = same_after y (past y other) ∙ (known_else y other ∙ (found ∙ ap (λ z. Some z) i.is)) in
+                instance_carried R (told_scope told) a sample_frame y i.scheme f nothing_fixed)
+            | inr here ↦ own_carried y here.own entry i
+          ]
           | inr f ↦ own_carried y (is_own y f) entry i
         ]));
   })
@@ -346,9 +349,9 @@ module _ (w : World) (sound : IsSound w) (told : Known) (known_told : KnownIn w 
       → EndsWell (λ inner. Fits w inner U (told_scope told) sample_frame) (declare_with (call_at n) ds env)
   part_fits n env f =
       map_ends (λ inner. Fits w inner U R a) (λ inner. Fits w inner U (told_scope told) sample_frame) (declare_with (call_at n) ds env)
-      (part_good w (steps_keep_types w sound) n m ds told env U a t.place (given_serves w sound (known_in m told) is_part.known) named (subst AreApart (sym same) is_part.apart) inside covers is_part.given
-      is_part.use_before is_part.earlier (subst (λ z. Without (defines z) (given_in ds)) (sym same) is_part.others) is_part.simple is_part.used a_stands
-      (fits_carried (told_scope told) sample_frame S a w env (none_but before) (before_own m ds U) is_part.known to_module f) is_part.solves)
+      (part_from w (steps_keep_types w sound) n m ds told env U a t.place (given_serves w sound (known_in m told) is_part.known) named (subst AreApart (sym same) is_part.apart) inside is_part.given
+      is_part.use_before is_part.earlier (subst (λ z. Without (defines z) (given_in ds)) (sym same) is_part.others) is_part.simple is_part.used a_stands is_part.known
+      (fits_carried (told_scope told) sample_frame R a w env (none_but before) unbound known_after to_module f) is_part.solves)
       (λ inner h. fits_carried R a (told_scope told) sample_frame w inner U U known_told from_module h)
 
 -- ---- all modules

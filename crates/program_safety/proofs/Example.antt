@@ -27,7 +27,7 @@ use Rattle.type_items.specs.Items.{Place, child, at, Wanted, Item, Same, InClass
 use Rattle.type_items.specs.Solutions.{Values, Solves}
 use Rattle.type_items.specs.Principal.{HasType, IsInstance, IsPrincipal, unscoped}
 use Rattle.type_items.specs.Faults.{Typable, IsSmall}
-use Rattle.type_items.specs.Inferred.{Inferred}
+use Rattle.type_items.specs.Inferred.{Schemes, Inferred}
 use Rattle.typed_values.specs.Frames.{Frame, Stands, Chosen, ground_instance}
 use Rattle.typed_values.specs.World.{KnownIn, Constructor, Among, IsOneOf, is_negative, IsSound}
 use Rattle.typed_values.specs.Payloads.{cmd_type, sub_type}
@@ -41,7 +41,7 @@ use Rattle.typed_values.proofs.SampleWorld.{Fine, fine_none, MadeIn, KnowsCore, 
 use Rattle.type_safety.specs.Modules.{scope_after, groups_in}
 use Rattle.type_safety.proofs.Lets.{solves_copied}
 use Rattle.program_safety.specs.Parts.{IsPart, IsOf, IsNotOf, IsInstanceOf, Tells, bound_with, primitive_names}
-use Rattle.program_safety.specs.Told.{schemes_of, IsVariable}
+use Rattle.program_safety.specs.Told.{IsVariable, IsToldAs}
 use Rattle.program_safety.proofs.Told.{names_tell}
 use Rattle.program_safety.proofs.Primitives.{each_knows}
 use Rattle.program_safety.specs.Programs.{IsProgramMaker}
@@ -258,7 +258,12 @@ of_five P h x s is = go (bytes_eq x (codes "five")) refl is
         subst (λ z. P z s) (sym n) (subst (P (codes "five")) same h)
     go false e f = absurd (let z : None ≡ Some s = f in cc)
 
-help_inferred : Inferred help_module told (1 ∷ []) (schemes_of told)
+-- what inference tells of names
+abbrev schemes : Schemes
+schemes (Local x) = None
+schemes (Top m x) = told m x
+
+help_inferred : Inferred help_module told (1 ∷ []) schemes
 unfolding ordered_groups
 help_inferred = record {
   typable = help_typable;
@@ -267,14 +272,17 @@ help_inferred = record {
 
 pub help_is_inferred : ExampleIsInferred
 help_is_inferred = record {
+  schemes = schemes;
   inferred = help_inferred;
   placed = λ e. (let z : 1 ∷ [] ≡ [] = e in cc);
   titled = tt;
   apart = ((refl, tt), tt);
   closed = of_five (λ x s. AllByRecursion IsVariable (variables s.type)) (tt, tt);
-  declared = of_five
-      (λ x s. (defines (definitions (groups_in help_declarations)) (Top help_name x) ≡ true) ⊎ (known_in help_module told help_name x ≡ Some s))
-      (inl refl);
+  tells = of_five (IsToldAs told schemes help_part) (record {
+    scheme = five_scheme;
+    instances = λ f choice stands chosen. (choice, chosen, refl);
+    is = inl (refl, refl);
+  });
 }
 
 -- ---- what Main tells
@@ -411,7 +419,7 @@ main_is_part = record {
   own = own_names;
   others = (refl, (refl, tt));
   given_own = (refl, (refl, tt));
-  elsewhere = before_main;
+  elsewhere = λ y e. inl (before_main y e);
   given = (
     inr (inr (record { home = main_name; name = codes "out"; scheme = out_scheme; name_is = refl; known_is = refl; is = inl (codes "out", IntPayload, variable (Free 0), refl, refl, tt, refl) })),
     (
@@ -456,7 +464,7 @@ main_is_typed = record {
       own = own_five;
       others = tt;
       given_own = tt;
-      elsewhere = before_help;
+      elsewhere = λ y e. inl (before_help y e);
       given = tt;
       use_before = (tt, tt);
       earlier = (tt, tt);

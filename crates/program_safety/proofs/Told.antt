@@ -27,7 +27,7 @@ use Rattle.typed_values.specs.Frames.{Frame, of, kind_of, Stands, Chosen, ground
 use Rattle.typed_values.specs.World.{Among}
 use Rattle.typed_values.specs.Simple.{defines, AreApart}
 use Rattle.typed_values.specs.Sample.{sample, sample_frame}
-use Rattle.typed_values.proofs.Names.{yes_or_no, not_both, same_refs, solves_right}
+use Rattle.typed_values.proofs.Names.{not_both, same_refs, solves_right}
 use Rattle.typed_values.proofs.Keeping.{and_left, and_right, and_both}
 use Rattle.typed_values.proofs.Rows.{extend_none, substitute_twice, after_renamed, insert_after, insert_before}
 use Rattle.typed_values.proofs.Unions.{agree}
@@ -40,8 +40,8 @@ use Rattle.type_safety.proofs.Stagings.{at_name, Named, AllNamed, EachNamed, las
 use Rattle.type_safety.proofs.Orders.{written_among, among_written, group_covers, group_alone, group_among}
 use Rattle.type_safety.proofs.Lets.{Hs, T, plain_adding, adds_defines, annotated_entry, none_at, adds_member, Alone, one_definer, solves_copied, among_ref, all_among, all_from, each_at, same_before}
 use Rattle.type_safety.proofs.Progress.{top_named}
-use Rattle.program_safety.specs.Parts.{Part, IsInstanceOf, Tells}
-use Rattle.program_safety.specs.Told.{schemes_of, IsVariable, IsInferred, InferredModulesTell}
+use Rattle.program_safety.specs.Parts.{Part, HasInstances, IsInstanceOf, Tells}
+use Rattle.program_safety.specs.Told.{IsVariable, IsInferred, InferredModulesTell}
 use Rattle.program_safety.proofs.Chain.{definer}
 
 -- ---- the constants of a type in the place of variables
@@ -261,18 +261,18 @@ module _ (told : Known) (t : Part) (ok : IsInferred told t) where
   scope_is y = ap (λ z. entry_of z y) (listed_scope H T0 p 0)
 
   -- a name whose group has no annotation
-  general_tells : (y : Ref) (s : Scheme) → schemes_of told y ≡ Some s → AllByRecursion IsVariable (variables s.type) → (k : ℕ) → adds (group_at H k) y ≡ true → (f : Frame) (choice : ℕ → Ground) → Stands f
+  general_tells : (y : Ref) (s : Scheme) → ok.schemes y ≡ Some s → AllByRecursion IsVariable (variables s.type) → (k : ℕ) → adds (group_at H k) y ≡ true → (f : Frame) (choice : ℕ → Ground) → Stands f
       → Chosen s choice → IsInstanceOf (general (group_at H k) (scope_at H T0 k) y) (ground_instance choice f s)
   general_tells y s told_is closed k adding f choice stands chosen =
       let G = group_at H k in
       let U = scope_at H T0 k in
-      let a = at_group H p 0 k (λ g. GroupHasSchemes p its (schemes_of told) K (child p g.0) (first_annotation g.1) g.1) ok.inferred.types (some_group G y adding) in
+      let a = at_group H p 0 k (λ g. GroupHasSchemes p its ok.schemes K (child p g.0) (first_annotation g.1) g.1) ok.inferred.types (some_group G y adding) in
       let q = place_at H p 0 k in
       let known_is : U.known ≡ K = (scope_alike H T0 k).known in
       let r = first_definer K G U.known q 0 y known_is (named_at K H k each_named) (adds_defines G y adding) in
-      let names = plain_schemes p its (schemes_of told) K (child p a.number) G y adding a.holds in
+      let names = plain_schemes p its ok.schemes K (child p a.number) G y adding a.holds in
       let found : at_name y (group_types G K (child p a.number)) ≡ Some (Mono r.type) = subst (λ z. at_name y (group_types G K z) ≡ Some (Mono r.type)) a.place_is (subst (λ z. at_name y (group_types G z q) ≡ Some (Mono r.type)) known_is r.found) in
-      let h = principal_at p its (schemes_of told) y r.type (group_types G K (child p a.number)) names found in
+      let h = principal_at p its ok.schemes y r.type (group_types G K (child p a.number)) names found in
       let e : Some s ≡ Some h.scheme = sym told_is ∙ h.is in
       let same_scheme : s ≡ h.scheme = cc in
       let principal : IsPrincipal p its r.type s = subst (IsPrincipal p its r.type) (sym same_scheme) h.principal in
@@ -364,11 +364,9 @@ module _ (s : Scheme) (f : Frame) (stands : Stands f) (choice : ℕ → Ground) 
       subst (λ k. fits k (choice (position_or_len (nat_eq i) order)) ≡ true) (kind_there s.kinds order i e) (chosen.kinds (position_or_len (nat_eq i) order))
   ordered_fits i false e = fresh_fits i (kind_at s.kinds i)
 
-  renamed_tells : IsInstanceOf (Instance s) (ground_instance choice f (rename s))
-  renamed_tells = (
-    f,
+  renamed_has : (other : ℕ → Ground) × Chosen s other × (ground_instance other f s ≡ ground_instance choice f (rename s))
+  renamed_has = (
     ordered_choice,
-    stands,
     record { kinds = λ i. ordered_fits i (list_any (nat_eq i) order) refl },
     agree (instance_leaf ordered_choice f) (λ l. instance_leaf choice f (placed order l)) s.type (each (variables s.type) (all_in_order (variables s.type) []))
         ∙ sym (after_renamed (placed order) (instance_leaf choice f) s.type),
@@ -378,6 +376,13 @@ module _ (s : Scheme) (f : Frame) (stands : Stands f) (choice : ℕ → Ground) 
       each [] h = tt
       each (Free i ∷ ls) h = (ap (placed_choice i) h.0, each ls h.1)
       each (Fixed r ∷ ls) h = (refl, each ls h.1)
+
+  renamed_tells : IsInstanceOf (Instance s) (ground_instance choice f (rename s))
+  renamed_tells = (f, renamed_has.0, stands, renamed_has.1, renamed_has.2)
+
+-- with its variables in order a scheme has no other instances
+pub renamed_instances : (s : Scheme) → HasInstances s (rename s)
+renamed_instances s f choice stands chosen = renamed_has s f stands choice chosen
 
 -- ---- all names
 
@@ -400,7 +405,7 @@ module _ (told : Known) (t : Part) (ok : IsInferred told t) where
       (entry : Entry) × (entry_of (scope_after t.module_ told t.place) y ≡ Some entry)
       × ((f : Frame) (choice : ℕ → Ground) → Stands f → Chosen s choice → IsInstanceOf entry (ground_instance choice f s))
 
-  defined_tells : (y : Ref) (s : Scheme) → schemes_of told y ≡ Some s → AllByRecursion IsVariable (variables s.type) → defines (es told t ok) y ≡ true → Have y s
+  defined_tells : (y : Ref) (s : Scheme) → ok.schemes y ≡ Some s → AllByRecursion IsVariable (variables s.type) → defines (es told t ok) y ≡ true → Have y s
   defined_tells y s told_is closed defined = elim (last_adding (K told t ok) (H told t ok) (T0 told t ok) y refl (each_named told t ok)) [
     | inr r ↦ (
       general (group_at (H told t ok) r.number) (scope_at (H told t ok) (T0 told t ok) r.number) y,
@@ -422,8 +427,8 @@ module _ (told : Known) (t : Part) (ok : IsInferred told t) where
           let one : (e : Definition) → Among e written → among y e.names ≡ true → e ≡ d = λ e n other. one_definer (es told t ok) e d y (apart told t ok) (among_written e (es told t ok) n) among_es other own in
           let entry : Entry = Instance (annotation_scheme note) in
           let found : entry_of (T0 told t ok) y ≡ Some entry = found_left (S told t ok) (annotated_names written []) y entry (annotated_entry written [] d note y one in_written own is) in
-          let a = at_group (H told t ok) t.place 0 c.0 (λ g. GroupHasSchemes t.place (its told t ok) (schemes_of told) (K told t ok) (child t.place g.0) (first_annotation g.1) g.1) ok.inferred.types (some_member (group_at (H told t ok) c.0) d c.1) in
-          let told_as = noted_schemes t.place (its told t ok) (schemes_of told) (K told t ok) (child t.place a.number) (group_at (H told t ok) c.0) d note y c.1 is own
+          let a = at_group (H told t ok) t.place 0 c.0 (λ g. GroupHasSchemes t.place (its told t ok) ok.schemes (K told t ok) (child t.place g.0) (first_annotation g.1) g.1) ok.inferred.types (some_member (group_at (H told t ok) c.0) d c.1) in
+          let told_as = noted_schemes t.place (its told t ok) ok.schemes (K told t ok) (child t.place a.number) (group_at (H told t ok) c.0) d note y c.1 is own
           (λ e n. group_alone written c.0 d note c.1 is e n) a.holds in
           let z : Some s ≡ Some (rename (annotation_scheme note)) = sym told_is ∙ told_as in
           let same_scheme : s ≡ rename (annotation_scheme note) = cc in (
@@ -440,16 +445,24 @@ module _ (told : Known) (t : Part) (ok : IsInferred told t) where
     λ f choice stands chosen. (f, choice, stands, chosen, refl),
   )
 
+  -- another scheme that has no instances but those of one that it has
+  has_less : (y : Ref) (u s : Scheme) → HasInstances u s → Have y u → Have y s
+  has_less y u s less h = (
+    h.0,
+    h.1,
+    λ f choice stands chosen.
+        let r = less f choice stands chosen in
+        subst (IsInstanceOf h.0) r.2 (h.2 f r.0 stands r.1),
+  )
+
   own_tells : (x : Name) (s : Scheme) → told t.module_.name x ≡ Some s → Have (Top t.module_.name x) s
   own_tells x s is =
       let y = Top t.module_.name x in
-      elim (yes_or_no (defines (es told t ok) y)) [
-        | inl own ↦ defined_tells y s is (ok.closed x s is) own
-        | inr none ↦ elim (ok.declared x s is) [
-          | inl own ↦ not_both (defines (es told t ok) y) (ap (λ z. defines z y) (same told t ok) ∙ own) none
-          | inr known_is ↦ given_tells y s (ap (λ o. option_map (λ s. Instance s) o) known_is) none
-        ]
-      ]
+      let r = ok.tells x s is in
+      has_less y r.scheme s r.instances (elim r.is [
+        | inl own ↦ defined_tells y r.scheme own.1 (ok.closed x r.scheme own.1) (ap (λ z. defines z y) (same told t ok) ∙ own.0)
+        | inr given ↦ given_tells y r.scheme (ap (λ o. option_map (λ s. Instance s) o) given.1) (ap (λ z. defines z y) (same told t ok) ∙ given.0)
+      ])
 
 pub names_tell : InferredModulesTell
 names_tell told t ok (Local x) o = tt

@@ -46,6 +46,12 @@ AreSome (d ∷ ds) (e ∷ es) = (d ≡ e) × AreSome ds es ⊎ AreSome (d ∷ ds
 
 -- ---- what a module tells of its names
 
+-- each instance of the second scheme is one of the first
+abbrev pub HasInstances : Scheme → Scheme → Type 0
+HasInstances s t =
+    (f : Frame) (choice : ℕ → Ground) → Stands f → Chosen t choice
+    → (other : ℕ → Ground) × Chosen s other × (ground_instance other f s ≡ ground_instance choice f t)
+
 -- the ground type is an instance of what the scope has of a name
 abbrev pub IsInstanceOf : Entry → Ground → Type 0
 IsInstanceOf (Mono t) g = ⊥
@@ -62,6 +68,20 @@ Tells told t (Top m x) =
     → (entry : Entry) × (entry_of (scope_after t.module_ told t.place) (Top m x) ≡ Some entry)
     × ((f : Frame) (choice : ℕ → Ground) → Stands f → Chosen s choice
     → IsInstanceOf entry (ground_instance choice f s))
+
+-- A name of the module that is bound before it, as functions of the fixed JavaScript text are. The module has a type for
+-- it, and no instance of this but those of the type that is told.
+pub record IsBoundEarlier (told : Known) (t : Part) (m x : Name) : Type 0 where
+  pub own : m ≡ t.module_.name
+  pub scheme : Scheme
+  pub told_is : told m x ≡ Some scheme
+  pub inside : Scheme
+  pub is : entry_of (scope_after t.module_ told t.place) (Top m x) ≡ Some (Instance inside)
+  pub instances : HasInstances scheme inside
+
+abbrev pub IsEarlier : Known → Part → Ref → Type 0
+IsEarlier told t (Local x) = ⊥
+IsEarlier told t (Top m x) = IsBoundEarlier told t m x
 
 -- ---- a module after others
 
@@ -85,7 +105,7 @@ pub record IsPart (w : World) (told : Known) (before : Ref → Bool) (t : Part) 
   pub own : (y : Ref) → defines (definitions (groups_in t.module_.declarations)) y ≡ true → IsOf t.module_.name y
   pub others : Without (defines (definitions (groups_in t.module_.declarations))) (given_in t.declared)
   pub given_own : AllByRecursion (IsOf t.module_.name) (given_in t.declared)
-  pub elsewhere : (y : Ref) → before y ≡ true → IsNotOf t.module_.name y
+  pub elsewhere : (y : Ref) → before y ≡ true → IsNotOf t.module_.name y ⊎ IsEarlier told t y
   pub given : AreTyped w (known_in t.module_ told) t.declared
   pub use_before : UseGivenBefore t.declared
   pub earlier : UseEarlier (groups_in t.declared)

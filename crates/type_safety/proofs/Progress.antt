@@ -702,7 +702,24 @@ module _ (W : World) (steps : StepsKeepTypes W) where
 
   -- ---- whole modules
 
-  -- Those declarations of a module that are there, where what else the module defines is hidden.
+  -- Those declarations of a module that are there. What was bound before them fits the scope after the module, where
+  -- what they bind is hidden.
+  pub part_from : (n : ℕ) (m : Module) (ds : List Declaration) (known : Known) (env : Env) (U : Ref → Bool) (a : Frame) (p : Place) → AllServed (known_in m known)
+      → AllNamed (known_in m known) (module_definitions m) → AreApart (module_definitions m)
+      → ((d : Definition) → Among d (definitions (groups_in ds)) → Among d (module_definitions m))
+      → AreTyped W (known_in m known) ds → UseGivenBefore ds → UseEarlier (groups_in ds) → Without (defines (module_definitions m)) (given_in ds) → SimpleGroups W (groups_in ds)
+      → Without U (used_groups (groups_in ds)) → Stands a → KnownIn W (known_in m known) → Fits W env (unbound ds U) (scope_after m known p) a → Solves a.values (module_items m known p)
+      → EndsWell (λ inner. Fits W inner U (scope_after m known p) a) (declare_with (call_at n) ds env)
+  part_from n m ds known env U a p served named apart inside given before earlier others simple free stands is_known f sol =
+      let S = module_scope m known in
+      let es = module_definitions m in
+      let ok : IsLet es S p a = record { known = is_known; named = named; apart = apart; stands = stands; solves = solves_right a (around_items (in_written_order es) S.constants) (list_groups (Hs W es S p a) (T W es S p a) p 0).items sol } in
+      let same = listed_scope (Hs W es S p a) (T W es S p a) p 0 in
+      subst (λ R. EndsWell (λ inner. Fits W inner U R a) (declare_with (call_at n) ds env)) (sym same)
+      (declare_good (call_at n) (call_good n) ds env es U S a p served ok refl inside given before earlier others simple free
+      (subst (λ R. Fits W env (unbound ds U) R a) same f))
+
+  -- Those that are there, where what else the module defines is hidden.
   pub part_good : (n : ℕ) (m : Module) (ds : List Declaration) (known : Known) (env : Env) (U : Ref → Bool) (a : Frame) (p : Place) → AllServed (known_in m known)
       → AllNamed (known_in m known) (module_definitions m) → AreApart (module_definitions m)
       → ((d : Definition) → Among d (definitions (groups_in ds)) → Among d (module_definitions m))
@@ -714,15 +731,14 @@ module _ (W : World) (steps : StepsKeepTypes W) where
       let S = module_scope m known in
       let es = module_definitions m in
       let start = before_own m ds U in
-      let ok : IsLet es S p a = record { known = fits_known W env start S a f; named = named; apart = apart; stands = stands; solves = solves_right a (around_items (in_written_order es) S.constants) (list_groups (Hs W es S p a) (T W es S p a) p 0).items sol } in
       let last = Last W es S p a in
-      subst (λ R. EndsWell (λ inner. Fits W inner U R a) (declare_with (call_at n) ds env)) (sym (listed_scope (Hs W es S p a) (T W es S p a) p 0))
-      (declare_good (call_at n) (call_good n) ds env es U S a p served ok refl inside given before earlier others simple free
+      part_from n m ds known env U a p served named apart inside given before earlier others simple free stands (fits_known W env start S a f)
+      (subst (λ R. Fits W env (unbound ds U) R a) (sym (listed_scope (Hs W es S p a) (T W es S p a) p 0))
       (fits_shown W env (λ y. defines es y || start y) (unbound ds U) last a (λ y o.
       let k = not_or (defines (definitions (groups_in ds)) y) (among y (given_in ds) || U y) o in
       let shown = (not_or (among y (given_in ds)) (U y) k.1).1 in
       let none = covers y shown k.0 in
-      or_not (defines es y) (start y) none (or_not (defines es y) (among y (given_in ds) || U y) none k.1)) (agree_refl last a) (fits_start W es S p a refl ok.named env start f)))
+      or_not (defines es y) (start y) none (or_not (defines es y) (among y (given_in ds) || U y) none k.1)) (agree_refl last a) (fits_start W es S p a refl named env start f))) sol
 
   pub module_good : (n : ℕ) (m : Module) (known : Known) (env : Env) (U : Ref → Bool) (a : Frame) (p : Place) → AllServed (known_in m known) → IsPlain W (known_in m known) m
       → Without U (used_groups (groups_in m.declarations)) → Stands a → Fits W env (before_own m m.declarations U) (module_scope m known) a → Solves a.values (module_items m known p)

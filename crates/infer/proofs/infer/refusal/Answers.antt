@@ -1,4 +1,4 @@
-use Rattle.std.proofs.Common.{List, [], length, sym, subst}
+use Rattle.std.proofs.Common.{List, length, sym, subst}
 use Rattle.std.proofs.lemmas.Result.{IfOk-weaker}
 use Rattle.type_answers.specs.Texts.{Explains}
 use Rattle.type_items.specs.Faults.{FirstBad}
@@ -7,6 +7,7 @@ use Rattle.type_refusals.specs.Failing.{FailsAt}
 use Rattle.infer_base.specs.View.{bad_view}
 use Rattle.infer_faults.specs.Inside.{IsInside}
 use Rattle.infer_faults.specs.declared.explain.Said.{Said}
+use Rattle.infer.specs.Modules.{root}
 use Rattle.infer.proofs.Reopened.{more, fails_on}
 use Rattle.infer.proofs.infer.refusal.Goals as goal
 
@@ -15,7 +16,7 @@ explain-requires-clause-inside c =
     let s = c.args.state.now.store in
     let bad = bad_view c.args.bad.now in
     subst (λ t. IsInside (length t) bad) (sym c.in_ok-open.ensures.made)
-    (c.stop_law.ensures [] c.requires.items bad (more s 0) (fails_on s 0 [] c.requires.items bad c.requires.fails))
+    (c.stop_law.ensures root c.requires.items bad (more s 0) (fails_on s 0 root c.requires.items bad c.requires.fails))
 
 pub returns : goal.returns
 returns c =
@@ -24,7 +25,7 @@ returns c =
     let bad = bad_view c.args.bad.now in
     IfOk-weaker c.explain.result
     (λ (said : Said). Explains t bad said.code said.position said.text.items)
-    (λ (said : Said). (items : List Item) → FailsAt [] items bad s → FirstBad [] items said.code said.position said.text.items)
-    (λ said ex items fails. c.refusal_law.ensures.explains [] items t bad said.code said.position said.text.items
+    (λ (said : Said). (items : List Item) → FailsAt root items bad s → FirstBad root items said.code said.position said.text.items)
+    (λ said ex items fails. c.refusal_law.ensures.explains root items t bad said.code said.position said.text.items
     c.in_ok-open.ensures.whole
-    (subst (FailsAt [] items bad) (sym c.in_ok-open.ensures.made) (fails_on s 0 [] items bad fails)) ex) c.explain.ensures
+    (subst (FailsAt root items bad) (sym c.in_ok-open.ensures.made) (fails_on s 0 root items bad fails)) ex) c.explain.ensures

@@ -1,0 +1,2 @@
+-- the groups of a module
+mod Grouping

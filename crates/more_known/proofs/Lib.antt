@@ -1,0 +1,5 @@
+mod Lists
+pub mod Patterns
+pub mod Groups
+pub mod Expressions
+pub mod Modules

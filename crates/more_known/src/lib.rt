@@ -1,0 +1,4 @@
+//! A module that is typable is typed the same where more is known.
+#![tactic(auto)]
+
+pub mod laws;
