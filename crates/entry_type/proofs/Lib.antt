@@ -4,3 +4,5 @@ pub mod Front
 pub mod Parts
 -- how many types are still to come
 pub mod Lasting
+-- fields of records among flags
+mod Ascending

@@ -8,11 +8,11 @@ use Rattle.elm_type.specs.Types.{ElmType, Made, NoType, MoreType, Leaf, Kind, Sc
 use Rattle.elm_type.specs.declared.head.Head.TheVariants as head
 use Rattle.elm_type_text.specs.Text.{type_text, utf8}
 use Rattle.canon_type.specs.Ports.{is_type}
-use Rattle.entry_type.specs.Payloads.{type_payload}
+use Rattle.entry_type.specs.Payloads.{flags_payload}
 use Rattle.entry_type.specs.declared.entry.EntryType as program
 
--- a program with these flags; a program whose flags may not cross, by the text of their type; no program, by the text
--- of the type
+-- a program with these flags; a program that there can be no flags for, by the text of their type; no program, by the
+-- text of the type
 pub data EntryType : Type 0 where
   IsProgram : Flags → EntryType
   HasFlags : List ℕ → EntryType
@@ -37,7 +37,7 @@ with_payload text (Some p) = IsProgram (FlagsOf p)
 
 -- flags of type () are read from everything
 abbrev pub with_flags : List Kind → ElmType (Leaf ℕ) → EntryType
-with_flags ks t = if is_unit t then IsProgram AnyFlags else with_payload (text_of ks t) (type_payload t)
+with_flags ks t = if is_unit t then IsProgram AnyFlags else with_payload (text_of ks t) (flags_payload t)
 
 abbrev pub entry_by : Scheme → Option (ElmType (Leaf ℕ)) → EntryType
 entry_by s None = IsNoProgram (text_of s.kinds s.type)

@@ -1,10 +1,15 @@
 -- What crosses a port, by a type: what an annotation says that writes the type. (Elm guide: JavaScript interop.)
-use Rattle.std.specs.Prelude.{codes, Option}
+use Rattle.std.specs.Prelude.{codes, Option, Some, None, option_and_then, Bool, true, ◌&&◌, if◌then◌else◌}
 use Rattle.elm_canon.specs.Tree.{Annotation, Variable, NamedType, FunctionType, TupleType, RecordType, ExtendedType}
 use Rattle.elm_canon.specs.Tree.{Annotations, NoAnnotation, MoreAnnotation, FieldTypes, NoFieldType, MoreFieldType}
-use Rattle.elm_canon.specs.Tree.{Payload}
+use Rattle.elm_canon.specs.Names.{Name}
+use Rattle.elm_canon.specs.Tree.{Payload, IntPayload, BoolPayload, TextPayload, MaybePayload, ListPayload}
+use Rattle.elm_canon.specs.Tree.{TuplePayload, RecordPayload, Payloads, NoPayload, MorePayload, PayloadFields}
+use Rattle.elm_canon.specs.Tree.{NoPayloadField, MorePayloadField}
+use Rattle.elm_proper.specs.Spelled.{is_word}
 use Rattle.elm_type.specs.Types.{ElmType, ElmTypes, Fields, End, Closed, Over, Made, Record, NoType, MoreType}
 use Rattle.elm_type.specs.Types.{NoField, MoreField}
+use Rattle.elm_type.specs.Rows.{name_lt}
 use Rattle.elm_type.specs.declared.head.Head.{Head}
 use Rattle.elm_type.specs.declared.head.Head.TheVariants as head
 use Rattle.port_payload.specs.Payloads.{payload_of}
@@ -40,3 +45,37 @@ abbrev mutual
 -- what the type is to a port, and none if it may not cross one
 abbrev pub type_payload : {X : Type 0} → ElmType X → Option Payload
 type_payload t = payload_of (annotation_of t)
+
+-- ---- flags
+
+abbrev pub is_after : Option Name → Name → Bool
+is_after None k = true
+is_after (Some j) k = name_lt j k
+
+-- the fields of its records are words, in ascending order, as types keep them
+abbrev mutual
+  pub has_fields : Payload → Bool
+  has_fields IntPayload = true
+  has_fields BoolPayload = true
+  has_fields TextPayload = true
+  has_fields (MaybePayload t) = has_fields t
+  has_fields (ListPayload t) = has_fields t
+  has_fields (TuplePayload ts) = all_have_fields ts
+  has_fields (RecordPayload fs) = are_fields None fs
+
+  pub all_have_fields : Payloads → Bool
+  all_have_fields NoPayload = true
+  all_have_fields (MorePayload t ts) = has_fields t && all_have_fields ts
+
+  -- after a field of that name, if any
+  pub are_fields : Option Name → PayloadFields → Bool
+  are_fields before NoPayloadField = true
+  are_fields before (MorePayloadField k t fs) =
+      (is_word k && is_after before k) && (has_fields t && are_fields (Some k) fs)
+
+abbrev pub with_fields : Payload → Option Payload
+with_fields p = if has_fields p then Some p else None
+
+-- what flags of the type are, and none if there can be none
+abbrev pub flags_payload : {X : Type 0} → ElmType X → Option Payload
+flags_payload t = option_and_then with_fields (type_payload t)

@@ -8,8 +8,8 @@ ghost use Rattle.entry_type.specs.Entry as spec;
 ghost use Rattle.entry_type.specs.Entry.{entry_view, flags_in, with_flags};
 ghost use Rattle.entry_type.specs.Fronts.{is_program_head, is_program_node, is_tuple_head, is_unit_node, first_is};
 
+use crate::fields::flags_at;
 use crate::part::second_type;
-use crate::payload::payload_at;
 use elm_canon::tree::Payload;
 use elm_names::name::Name;
 use elm_type::head::Head;
@@ -23,7 +23,7 @@ use std::alloc::{AllocError, Global};
 pub enum EntryType {
     /// It is a program. Of flags of type `()`, which are read from everything, nothing is told.
     Program(Option<Payload>),
-    /// It is a program, and its flags are of a type that may not cross, with this text in UTF-8.
+    /// It is a program, and there can be no flags of the type of its flags, with this text in UTF-8.
     BadFlags(Vec<u8>),
     /// It is not a program, and has this text in UTF-8.
     NoProgram(Vec<u8>),
@@ -118,7 +118,7 @@ fn program_type(alloc: Global, scheme: &Scheme) -> Result<EntryType, AllocError>
     if is_unit(&scheme.ty.nodes) {
         return Ok(EntryType::Program(None));
     }
-    match payload_at(alloc, &scheme.ty.nodes, 1)? {
+    match flags_at(alloc, &scheme.ty.nodes, 1)? {
         Some(payload) => Ok(EntryType::Program(Some(payload))),
         None => {
             let flags = second_type(alloc, scheme)?;

@@ -2,6 +2,8 @@
 #![tactic(auto)]
 
 pub mod entry;
+mod fields;
 pub mod laws;
 mod part;
 mod payload;
+mod words;

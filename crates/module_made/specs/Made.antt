@@ -1,7 +1,8 @@
 -- What a module compiles to, by its name, its text, where its imports stand and what they offer. There are five phases:
--- text, imports, names, types and patterns. The first that has faults ends it. (Elm guide: modules.) The path of the
--- file stands in faults alone.
-use Rattle.std.specs.Prelude.{◌≡◌, ℕ, List, [], ◌∷◌, Option, Some, None, map}
+-- text, imports, names, types and patterns. The first that has faults ends it. (Elm guide: modules.) After names the
+-- module must have what the compiler takes for granted of the core library. The path of the file stands in faults
+-- alone.
+use Rattle.std.specs.Prelude.{◌≡◌, ℕ, List, [], ◌∷◌, Option, Some, None, map, codes}
 use Rattle.elm_base.specs.declared.position.Pos.{Pos}
 use Rattle.elm_base.specs.declared.fault.Code.{Code}
 use Rattle.elm_base.specs.declared.fault.Code.TheVariants.{FileTooLarge}
@@ -25,6 +26,7 @@ use Rattle.type_items.specs.Items.{Place}
 use Rattle.type_items.specs.Inferred.{Schemes, Inferred, Refused}
 use Rattle.core_functions.specs.Cores.{cores_of, without_cores}
 use Rattle.module_offers.specs.Offers.{known_by, main_type, module_interface}
+use Rattle.operator_faults.specs.Faults.{operator_faults}
 use Rattle.module_made.specs.Around.{Around, start, setting_of, head_faults}
 
 -- what a module compiles to: what it offers and its fragment, or its faults. One whose imports are not all good is
@@ -69,14 +71,19 @@ pub record Means (a : Around) (text : List ℕ) (t : tree.Module) (m : Module) :
 abbrev pub name_faults : Around → tree.Module → Module → List Finding
 name_faults a t m = names.module_faults (setting_of a t) t m
 
--- without a fault in its names
+-- what it lacks of what the compiler takes for granted of the core library
+abbrev pub lacking : Around → Module → List Finding
+lacking a m = operator_faults (a.interfaces (codes "Basics")) (a.interfaces (codes "List")) m
+
+-- without a fault in its names, and without lack
 pub record IsNamed (a : Around) (text : List ℕ) (t : tree.Module) (m : Module) : Type 0 where
   pub means : Means a text t m
   pub named : name_faults a t m ≡ []
+  pub whole : lacking a m ≡ []
 
--- where the definitions of a module stand in its tree of types
+-- where the definitions of a module stand in its tree of types: below a first place, where no constant of it stands
 abbrev pub root : Place
-root = []
+root = 0 ∷ []
 
 -- and these are the types of its definitions
 pub record IsTyped (a : Around) (text : List ℕ) (t : tree.Module) (m : Module) (told : Schemes) : Type 0 where
@@ -97,6 +104,8 @@ pub data Made (a : Around) (path : List ℕ) : Option (List ℕ) → Value → T
       → IsInOrder (head_faults a t.head) (f ∷ fs) → Made a path (Some text) (bad path (f ∷ fs))
   misnamed : {text : List ℕ} {t : tree.Module} {m : Module} {f : Finding} {fs : List Finding} → Means a text t m
       → IsInOrder (name_faults a t m) (f ∷ fs) → Made a path (Some text) (bad path (f ∷ fs))
+  incomplete : {text : List ℕ} {t : tree.Module} {m : Module} {f : Finding} {fs : List Finding} → Means a text t m
+      → name_faults a t m ≡ [] → IsInOrder (lacking a m) (f ∷ fs) → Made a path (Some text) (bad path (f ∷ fs))
   mistyped : {text : List ℕ} {t : tree.Module} {m : Module} {code : Code} {place : Pos} {detail : Name}
       → IsNamed a text t m → Refused m (known_by a.interfaces) root code place detail
       → Made a path (Some text) (bad path (type_finding code place detail ∷ []))

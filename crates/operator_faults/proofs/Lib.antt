@@ -1,0 +1,2 @@
+-- names of functions
+mod Names

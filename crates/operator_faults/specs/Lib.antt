@@ -1,0 +1,2 @@
+-- what the text of a core module must have
+pub mod Faults

@@ -1,0 +1,2 @@
+-- what a module has in which nothing is lacking
+pub mod Laws
