@@ -1,0 +1,2 @@
+-- what a module means and compiles to is determined
+pub mod Once

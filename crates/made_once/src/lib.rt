@@ -1,0 +1,4 @@
+//! A module compiles to one value.
+#![tactic(auto)]
+
+pub mod laws;

@@ -1,0 +1,2 @@
+-- what a module is compiled in
+pub mod Around
