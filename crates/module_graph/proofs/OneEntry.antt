@@ -73,7 +73,7 @@ one_below directory path name other a b =
     let same : a.0 ≡ b.0 = same_some (sym a.1 ∙ b.1) in
     one_name b.0 name other (subst (λ rest. NamesModule rest name) same a.2) b.2
 
-one_named : {path name other : List ℕ} {directories : List (List ℕ)} → NamesEntry path directories name → NamesEntry path directories other → name ≡ other
+pub one_named : {path name other : List ℕ} {directories : List (List ℕ)} → NamesEntry path directories name → NamesEntry path directories other → name ≡ other
 one_named {path} (here {directory = d} {name = n} a) (here {name = m} b) = one_below d path n m a b
 one_named (here {name = n} a) (later f b) = absurd (f n a)
 one_named (later f a) (here {name = n} b) = absurd (f n b)

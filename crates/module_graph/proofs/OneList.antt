@@ -75,7 +75,7 @@ module _ (has_imports : List ℕ → List Word → Type 0) (one : IsDetermined h
       at None a b = a ∙ sym b
       at (Some t) a b = one t words others a b
 
-  same_module : (s : Setting) (x y : Module) → x.source ≡ y.source → IsWhole has_imports s x → IsWhole has_imports s y → x ≡ y
+  pub same_module : (s : Setting) (x y : Module) → x.source ≡ y.source → IsWhole has_imports s x → IsWhole has_imports s y → x ≡ y
   same_module s x y e a b =
       let words = one_imports y.source.text x.source y.source a.0 b.0 (ap (λ z. z.text) e) refl a.1 b.1 in
       let imports : x.imports ≡ y.imports = a.2 ∙ ap (imports_found s) words ∙ sym b.2 in

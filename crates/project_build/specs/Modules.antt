@@ -1,7 +1,7 @@
 -- The modules of a build in import order: those of the core library, and then those of the project. Each compiles to a
 -- value, by the values of the modules that it imports. (Elm guide: modules; elm/core 1.0.5.)
 use Rattle.std.specs.Prelude.{◌≡◌, ℕ, List, [], ◌∷◌, ◌++◌, Bool, true, false, if◌then◌else◌, Option, Some, None, map}
-use Rattle.std.specs.Prelude.{option_map, flat_map, slice_get, unwrap_or, codes}
+use Rattle.std.specs.Prelude.{option_map, flat_map, slice_get, unwrap_or, codes, reverse}
 use Rattle.std.specs.List.{filter_map, position, zip}
 use Rattle.std.specs.Map.{lookup}
 use Rattle.std.specs.Str.{bytes_eq}
@@ -10,6 +10,7 @@ use Rattle.elm_base.specs.Units.{text_units}
 use Rattle.elm_canon.specs.Names.{Name, same_name}
 use Rattle.core_modules.specs.Library.{core_library}
 use Rattle.interface.specs.Interface.{Interface}
+use Rattle.module_files.specs.Places.{text_within}
 use Rattle.module_walk.specs.Modules.{Setting, Import, Module, IsWhole}
 use Rattle.module_walk.specs.declared.found.Found.{Found}
 use Rattle.module_walk.specs.declared.found.Found.TheVariants as found
@@ -21,23 +22,27 @@ use Rattle.module_fold.specs.Fold.{Graph, Folds}
 
 -- ---- the core library
 
+abbrev pub names_in : List (List ℕ × List ℕ) → List (List ℕ)
+names_in library = map (λ c. c.0) library
+
 abbrev pub core_names : List (List ℕ)
-core_names = map (λ c. c.0) core_library
+core_names = names_in core_library
 
--- its modules import each other alone
-abbrev pub core_setting : Setting
-core_setting = record { tree = λ path. None; directories = []; core = core_names }
+-- a module of the core library imports modules of it alone that stand before it. No module has any other name
+abbrev pub core_setting : List (List ℕ × List ℕ) → Setting
+core_setting before = record { tree = λ path. None; directories = []; core = names_in before }
 
--- a module of the core library stands in no file. It goes by its name
-pub record IsCoreModule (c : List ℕ × List ℕ) (m : Module) : Type 0 where
-  pub source : m.source ≡ record { name = c.0; path = c.0; text = Some c.1 }
-  pub whole : IsWhole HasImports core_setting m
+-- A module of the core library stands in no file: its name stands for its path. The limit of a text holds for it too
+pub record IsCoreModule (before : List (List ℕ × List ℕ)) (c : List ℕ × List ℕ) (m : Module) : Type 0 where
+  pub source : m.source ≡ record { name = c.0; path = c.0; text = text_within c.1 }
+  pub whole : IsWhole HasImports (core_setting before) m
 
-abbrev pub AreCoreModules : List (List ℕ × List ℕ) → List Module → Type 0
-AreCoreModules [] [] = Unit {0}
-AreCoreModules [] (m ∷ ms) = ⊥
-AreCoreModules (c ∷ cs) [] = ⊥
-AreCoreModules (c ∷ cs) (m ∷ ms) = IsCoreModule c m × AreCoreModules cs ms
+-- the modules of a part of the core library, which stands after another part
+abbrev pub AreCoreModules : List (List ℕ × List ℕ) → List (List ℕ × List ℕ) → List Module → Type 0
+AreCoreModules before [] [] = Unit {0}
+AreCoreModules before [] (m ∷ ms) = ⊥
+AreCoreModules before (c ∷ cs) [] = ⊥
+AreCoreModules before (c ∷ cs) (m ∷ ms) = IsCoreModule before c m × AreCoreModules (before ++ c ∷ []) cs ms
 
 -- ---- all modules in order
 
@@ -111,8 +116,9 @@ good_interfaces ((x, Good i f) ∷ vs) = option_map (λ is. (x, i) ∷ is) (good
 good_interfaces ((x, Bad fs) ∷ vs) = None
 good_interfaces ((x, Blocked) ∷ vs) = None
 
+-- of a name, the last of its interfaces: a module that is imported twice stands there twice, with one interface
 abbrev pub by_name : List (Name × Interface) → Interfaces
-by_name is x = lookup (same_name x) is
+by_name is x = lookup (same_name x) (reverse is)
 
 abbrev pub around : Part → List (Name × Interface) → Around
 around p is =

@@ -92,7 +92,7 @@ pub record Compiled (s : Setting) (written : List ℕ) (outcome : Outcome) : Typ
   pub order : List ℕ
   pub is_order : IsOrder (uses_of modules) [] order
   pub core : List Module
-  pub are_core : AreCoreModules core_library core
+  pub are_core : AreCoreModules [] core_library core
   pub entry : List ℕ
   pub names_entry : NamesEntry (normal_path written) s.directories entry
   pub compiled : IsCompiled (parts_of core modules order) entry outcome

@@ -42,6 +42,7 @@ use Rattle.fragments.specs.Made.{refs_used}
 use Rattle.link_proper.proofs.Sublists.{names_all}
 use Rattle.link_proper.proofs.Left.{in_with, in_front, after_names, after_only, all_new, narrow_declaration}
 use Rattle.project_proper.proofs.Used.{only}
+use Rattle.project_proper.proofs.Within.{offered_within, records_within}
 use Rattle.project_proper.specs.Resolved.{Resolved, all_declarations, scope_after, IsImport, AreImports, ShowsTypes}
 use Rattle.project_proper.specs.Resolved.{IsUnused, HasOperator, IsNext, AreNext, HomesApart}
 use Rattle.port_proper.proofs.Resolved.{payloads_well, names_once, shown_well}
@@ -263,7 +264,7 @@ import_offered [] k t a h i = types_offered k.import.home k.shown t i
 import_offered (r ∷ rs) k t a h i =
     ⊎_elim
     (λ s. subst (λ m. IsOffered m k.shown t) (sym s.0)
-    (subst (λ z. IsOffered (home_of r) z t) (sym s.1)
+    (offered_within (home_of r) k.shown (module_shows r.setting r.written r.whole) s.1 t
     (offers r.setting r.written r.whole t a.0.is a.0.read a.0.given (λ x e. own x (a.0.values x e))
     (λ x e. own x (a.0.makers x e)))))
     (import_offered rs k t a.1 (λ x e. h x (names_right x r.whole.declarations (all_declarations rs) e))) i
@@ -279,7 +280,8 @@ imports_offered rs (k ∷ ks) t a h i = (import_offered rs k t a h i.0, imports_
 import_records : (rs : List Resolved) (k : Known) → AllFit rs → IsImport rs k → AliasesHaveRecords k.shown.aliases
 import_records [] k a i = subst AliasesHaveRecords (sym i.1.0) tt
 import_records (r ∷ rs) k a i =
-    ⊎_elim (λ s. subst (λ (z : Shown). AliasesHaveRecords z.aliases) (sym s.1) a.0.aliases) (import_records rs k a.1) i
+    ⊎_elim (λ s. records_within k.shown (module_shows r.setting r.written r.whole) s.1 a.0.aliases)
+    (import_records rs k a.1) i
 
 imports_records : (rs : List Resolved) (ks : List Known) → AllFit rs → AreImports rs ks → ImportsHaveRecords ks
 imports_records rs [] a i = tt

@@ -1,6 +1,6 @@
--- The flags of a program have words for fields, each once: `words_are_fields`.
+-- The records of a program's flags have words for fields, each once: `words_are_fields`.
 use Rattle.std.proofs.Common.{◌≡◌, ℕ, List, Bool, true, false, Option, Some, None, refl, sym, ap, ◌∙◌, subst}
-use Rattle.std.specs.Prelude.{◌&&◌, ◌||◌, not, if◌then◌else◌}
+use Rattle.std.specs.Prelude.{◌&&◌, ◌||◌, not, if◌then◌else◌, option_and_then}
 use Rattle.std.specs.List.{list_any}
 use Rattle.std.proofs.Common.{Ordering, Less, Equal, Greater}
 use Rattle.std.specs.Ordering.{is_lt, nat_cmp}
@@ -9,22 +9,23 @@ use Rattle.std.proofs.lemmas.Cmp.{nat_list_cmp_total, tied_itself}
 use Rattle.std.proofs.lemmas.Bool.{false≢true, and_parts}
 use Rattle.group_order.proofs.Ordering.{not_true}
 use Rattle.elm_canon.specs.Names.{Name, same_name}
-use Rattle.elm_canon.specs.Tree.{Payload, field_names}
-use Rattle.elm_type.specs.Types.{ElmType, ElmTypes, Fields, Closed, Over, Made, Record, NoType, MoreType, Leaf}
-use Rattle.elm_type.specs.Types.{NoField, MoreField, Scheme}
-use Rattle.elm_type.specs.Rows.{name_lt, is_under, rise, ordered, ordered_all, ordered_fields}
-use Rattle.elm_type.specs.declared.head.Head.TheVariants as head
-use Rattle.elm_proper.specs.Spelled.{is_word, are_fields}
+use Rattle.elm_canon.specs.Tree.{Payload, IntPayload, BoolPayload, TextPayload, MaybePayload, ListPayload}
+use Rattle.elm_canon.specs.Tree.{TuplePayload, RecordPayload, Payloads, NoPayload, MorePayload, PayloadFields}
+use Rattle.elm_canon.specs.Tree.{NoPayloadField, MorePayloadField}
+use Rattle.elm_type.specs.Types.{ElmType, Leaf, Scheme}
+use Rattle.elm_type.specs.Rows.{name_lt}
+use Rattle.elm_proper.specs.Spelled.{is_word}
+use Rattle.elm_proper.specs.Spelled as spelled
 use Rattle.canon_env.proofs.Adding.{one_name}
-use Rattle.emit_size_laws.specs.Small.{FlagsHaveFields}
-use Rattle.port_proper.specs.Records.{HasRecords, AllHaveRecords, FieldsHaveRecords}
-use Rattle.port_proper.proofs.Payloads.{has_fields}
-use Rattle.entry_type.specs.Payloads.{annotation_of, annotations_of, field_types_of, type_payload}
-use Rattle.entry_type.specs.Entry.{entry_type, entry_by, with_flags, with_payload, flags_in, is_unit, text_of}
 use Rattle.elm_meaning.specs.Run.{AnyFlags}
+use Rattle.emit_choice_laws.specs.Given.{payload_names}
+use Rattle.emit_size_laws.specs.Small.{HasFields, AllHaveFields, FieldsHaveFields, FlagsHaveFields}
+use Rattle.entry_type.specs.Payloads.{is_after, has_fields, all_have_fields, are_fields, with_fields, type_payload}
+use Rattle.entry_type.specs.Payloads.{flags_payload}
+use Rattle.entry_type.specs.Entry.{entry_type, entry_by, with_flags, with_payload, flags_in, is_unit, text_of}
 use Rattle.entry_type.specs.Entry as entry
 use Rattle.link.specs.Programs.{flags_said}
-use Rattle.project_proper.specs.Flags.{has_words, all_have_words, fields_have_words, WordsAreFields}
+use Rattle.project_proper.specs.Flags.{WordsAreFields}
 
 -- ---- the order of names
 
@@ -40,115 +41,93 @@ lt_trans x y z a b =
 lt_itself : (x : Name) → name_lt x x ≡ false
 lt_itself x = ap is_lt (tied_itself nat_list_cmp_total x)
 
+other : (k j : Name) → name_lt k j ≡ true → same_name k j ≡ false
+other k j u =
+    not_true (same_name k j)
+    (λ e. false≢true (sym (lt_itself k) ∙ subst (λ z. name_lt k z ≡ true) (sym (one_name k j e)) u))
+
 -- ---- fields in order, each once
 
-module _ {X : Type 0} where
-  under_less : (k m : Name) (fs : Fields X) → name_lt k m ≡ true → is_under m fs ≡ true → is_under k fs ≡ true
-  under_less k m NoField e u = refl
-  under_less k m (MoreField j t fs) e u = lt_trans k m j e u
+-- what is said of a field, and of those after it
+field_parts : (before : Option Name) (k : Name) (t : Payload) (fs : PayloadFields) →
+    are_fields before (MorePayloadField k t fs) ≡ true →
+    ((is_word k ≡ true) × (is_after before k ≡ true)) × ((has_fields t ≡ true) × (are_fields (Some k) fs ≡ true))
+field_parts before k t fs e =
+    let p = and_parts (is_word k && is_after before k) (has_fields t && are_fields (Some k) fs) e in
+    (and_parts (is_word k) (is_after before k) p.0, and_parts (has_fields t) (are_fields (Some k) fs) p.1)
 
-  not_among : (k : Name) (fs : Fields X) → is_under k fs ≡ true → rise fs ≡ true →
-      list_any (same_name k) (field_names (field_types_of fs)) ≡ false
-  not_among k NoField u r = refl
-  not_among k (MoreField j t fs) u r =
-      let h = and_parts (is_under j fs) (rise fs) r in
-      ap (λ b. b || list_any (same_name k) (field_names (field_types_of fs))) (other k j u)
-      ∙ not_among k fs (under_less k j fs u h.0) h.1
-    where
-      other : (k j : Name) → name_lt k j ≡ true → same_name k j ≡ false
-      other k j u =
-          not_true (same_name k j)
-          (λ e. false≢true (sym (lt_itself k) ∙ subst (λ z. name_lt k z ≡ true) (sym (one_name k j e)) u))
+-- what comes after a field comes after those before it
+after_less : (k m : Name) (fs : PayloadFields) → name_lt k m ≡ true → are_fields (Some m) fs ≡ true →
+    are_fields (Some k) fs ≡ true
+after_less k m NoPayloadField l e = refl
+after_less k m (MorePayloadField j t fs) l e =
+    let h = field_parts (Some m) j t fs e in
+    ap (λ b. (b && name_lt k j) && (has_fields t && are_fields (Some j) fs)) h.0.0
+    ∙ ap (λ b. b && (has_fields t && are_fields (Some j) fs)) (lt_trans k m j l h.0.1)
+    ∙ ap (λ b. b && are_fields (Some j) fs) h.1.0 ∙ h.1.1
 
-  each_once : (fs : Fields X) → rise fs ≡ true → fields_have_words fs ≡ true →
-      are_fields (field_names (field_types_of fs)) ≡ true
-  each_once NoField r w = refl
-  each_once (MoreField k t fs) r w =
-      let h = and_parts (is_under k fs) (rise fs) r in
-      let g = and_parts (is_word k) (has_words t && fields_have_words fs) w in
-      let ks = field_names (field_types_of fs) in
-      ap (λ b. b && (not (list_any (same_name k) ks) && are_fields ks)) g.0
-      ∙ ap (λ b. not b && are_fields ks) (not_among k fs h.0 h.1)
-      ∙ each_once fs h.1 (and_parts (has_words t) (fields_have_words fs) g.1).1
+not_among : (k : Name) (fs : PayloadFields) → are_fields (Some k) fs ≡ true →
+    list_any (same_name k) (payload_names fs) ≡ false
+not_among k NoPayloadField e = refl
+not_among k (MorePayloadField j t fs) e =
+    let h = field_parts (Some k) j t fs e in
+    ap (λ b. b || list_any (same_name k) (payload_names fs)) (other k j h.0.1)
+    ∙ not_among k fs (after_less k j fs h.0.1 h.1.1)
+
+each_once : (before : Option Name) (fs : PayloadFields) → are_fields before fs ≡ true →
+    spelled.are_fields (payload_names fs) ≡ true
+each_once before NoPayloadField e = refl
+each_once before (MorePayloadField k t fs) e =
+    let h = field_parts before k t fs e in
+    let ks = payload_names fs in
+    ap (λ b. b && (not (list_any (same_name k) ks) && spelled.are_fields ks)) h.0.0
+    ∙ ap (λ b. not b && spelled.are_fields ks) (not_among k fs h.1.1)
+    ∙ each_once (Some k) fs h.1.1
 
 mutual
-  records : {X : Type 0} (t : ElmType X) → ordered t ≡ true → has_words t ≡ true → HasRecords (annotation_of t)
-  records (Made (head.Named m x) ts) o w = all_records ts o w
-  records (Made head.Tuple ts) o w = all_records ts o w
-  records (Made head.Function NoType) o w = tt
-  records (Made head.Function (MoreType t NoType)) o w = tt
-  records (Made head.Function (MoreType t (MoreType u NoType))) o w =
-      let p = all_records (MoreType t (MoreType u NoType)) o w in (p.0, p.1.0)
-  records (Made head.Function (MoreType t (MoreType u (MoreType v ts)))) o w = tt
-  records (Record fs Closed) o w =
-      let h = and_parts (rise fs) (ordered_fields fs) o in (each_once fs h.0 w, field_records fs h.1 w)
-  records (Record fs (Over x)) o w =
-      let h = and_parts (rise fs) (ordered_fields fs) o in (each_once fs h.0 w, field_records fs h.1 w)
+  records : (t : Payload) → has_fields t ≡ true → HasFields t
+  records IntPayload e = tt
+  records BoolPayload e = tt
+  records TextPayload e = tt
+  records (MaybePayload t) e = records t e
+  records (ListPayload t) e = records t e
+  records (TuplePayload ts) e = all_records ts e
+  records (RecordPayload fs) e = (each_once None fs e, field_records None fs e)
 
-  all_records : {X : Type 0} (ts : ElmTypes X) → ordered_all ts ≡ true → all_have_words ts ≡ true →
-      AllHaveRecords (annotations_of ts)
-  all_records NoType o w = tt
-  all_records (MoreType t ts) o w =
-      let h = and_parts (ordered t) (ordered_all ts) o in
-      let g = and_parts (has_words t) (all_have_words ts) w in
-      (records t h.0 g.0, all_records ts h.1 g.1)
+  all_records : (ts : Payloads) → all_have_fields ts ≡ true → AllHaveFields ts
+  all_records NoPayload e = tt
+  all_records (MorePayload t ts) e =
+      let h = and_parts (has_fields t) (all_have_fields ts) e in (records t h.0, all_records ts h.1)
 
-  field_records : {X : Type 0} (fs : Fields X) → ordered_fields fs ≡ true → fields_have_words fs ≡ true →
-      FieldsHaveRecords (field_types_of fs)
-  field_records NoField o w = tt
-  field_records (MoreField k t fs) o w =
-      let h = and_parts (ordered t) (ordered_fields fs) o in
-      let g = and_parts (is_word k) (has_words t && fields_have_words fs) w in
-      let f = and_parts (has_words t) (fields_have_words fs) g.1 in
-      (records t h.0 f.0, field_records fs h.1 f.1)
+  field_records : (before : Option Name) (fs : PayloadFields) → are_fields before fs ≡ true → FieldsHaveFields fs
+  field_records before NoPayloadField e = tt
+  field_records before (MorePayloadField k t fs) e =
+      let h = field_parts before k t fs e in (records t h.1.0, field_records (Some k) fs h.1.1)
 
 -- ---- flags
 
--- the type of the flags is a part of the type
-flags_part : (s : Scheme) (t : ElmType (Leaf ℕ)) → ordered s.type ≡ true → has_words s.type ≡ true →
-    flags_in s.type ≡ Some t → (ordered t ≡ true) × (has_words t ≡ true)
-flags_part s t o w e = by s.type o w e
+crossing : (text : List ℕ) (q : Option Payload) →
+    FlagsHaveFields (flags_said (with_payload text (option_and_then with_fields q)))
+crossing text None = tt
+crossing text (Some p) = by (has_fields p) refl
   where
-    by : (u : ElmType (Leaf ℕ)) → ordered u ≡ true → has_words u ≡ true → flags_in u ≡ Some t →
-        (ordered t ≡ true) × (has_words t ≡ true)
-    by (Record fs end) o w e = absurd cc
-    by (Made head.Function ts) o w e = absurd cc
-    by (Made head.Tuple ts) o w e = absurd cc
-    by (Made (head.Named m x) NoType) o w e = absurd cc
-    by (Made (head.Named m x) (MoreType a NoType)) o w e = absurd cc
-    by (Made (head.Named m x) (MoreType a (MoreType b NoType))) o w e = absurd cc
-    by (Made (head.Named m x) (MoreType a (MoreType b (MoreType c (MoreType d ts))))) o w e = absurd cc
-    by (Made (head.Named m x) (MoreType a (MoreType b (MoreType c NoType)))) o w e =
-        (which _ a e (and_parts (ordered a) _ o).0, which_words _ a e (and_parts (has_words a) _ w).0)
-      where
-        which : (q : Bool) (a : ElmType (Leaf ℕ)) → (if q then Some a else None) ≡ Some t → ordered a ≡ true →
-            ordered t ≡ true
-        which true a e h = let g : a ≡ t = cc in subst (λ z. ordered z ≡ true) g h
-        which false a e h = absurd cc
+    by : (b : Bool) → has_fields p ≡ b → FlagsHaveFields (flags_said (with_payload text (if b then Some p else None)))
+    by true e = records p e
+    by false e = tt
 
-        which_words : (q : Bool) (a : ElmType (Leaf ℕ)) → (if q then Some a else None) ≡ Some t → has_words a ≡ true →
-            has_words t ≡ true
-        which_words true a e h = let g : a ≡ t = cc in subst (λ z. has_words z ≡ true) g h
-        which_words false a e h = absurd cc
-
-payload_said : (t : ElmType (Leaf ℕ)) (text : List ℕ) (q : Option Payload) → type_payload t ≡ q → ordered t ≡ true →
-    has_words t ≡ true → FlagsHaveFields (flags_said (with_payload text q))
-payload_said t text None e o w = tt
-payload_said t text (Some p) e o w = has_fields (annotation_of t) p (records t o w) e
-
-flags_from : (s : Scheme) (t : ElmType (Leaf ℕ)) → ordered t ≡ true → has_words t ≡ true →
-    FlagsHaveFields (flags_said (with_flags s.kinds t))
-flags_from s t o w = by (is_unit t)
+flags_from : (s : Scheme) (t : ElmType (Leaf ℕ)) → FlagsHaveFields (flags_said (with_flags s.kinds t))
+flags_from s t = by (is_unit t)
   where
     by : (b : Bool) → FlagsHaveFields (flags_said (if b then entry.IsProgram AnyFlags
-        else with_payload (text_of s.kinds t) (type_payload t)))
+        else with_payload (text_of s.kinds t) (flags_payload t)))
     by true = tt
-    by false = payload_said t (text_of s.kinds t) (type_payload t) refl o w
+    by false = crossing (text_of s.kinds t) (type_payload t)
 
 pub words_are_fields : WordsAreFields
 unfolding entry_type
-words_are_fields s o w = by (flags_in s.type) refl
+words_are_fields None = tt
+words_are_fields (Some s) = by (flags_in s.type)
   where
-    by : (q : Option (ElmType (Leaf ℕ))) → flags_in s.type ≡ q → FlagsHaveFields (flags_said (entry_by s q))
-    by None e = tt
-    by (Some t) e = let h = flags_part s t o w e in flags_from s t h.0 h.1
+    by : (q : Option (ElmType (Leaf ℕ))) → FlagsHaveFields (flags_said (entry_by s q))
+    by None = tt
+    by (Some t) = flags_from s t

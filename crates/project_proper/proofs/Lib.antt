@@ -2,6 +2,8 @@
 pub mod Used
 -- functions that no text can say, in front
 pub mod Moved
+-- imports that show no more than a module
+mod Within
 -- modules after modules
 pub mod First
 -- declarations where all modules are in scope

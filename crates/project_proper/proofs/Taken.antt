@@ -35,6 +35,7 @@ use Rattle.project_proper.proofs.First.{home_of, owned_of, in_scope, in_scope_of
 use Rattle.project_proper.proofs.First.{names_left, names_right}
 use Rattle.project_proper.proofs.First.{all_good}
 use Rattle.project_proper.proofs.Second.{all_inside}
+use Rattle.project_proper.proofs.Flags.{words_are_fields}
 
 -- ---- lists of declarations, one after the other
 
@@ -285,8 +286,8 @@ resolved_links rs i r o a at m linked =
     links_proper (map source_of rs) i (source_of r) o (taken_proper rs a)
     (record {
       main = λ t. subst (λ k. IsIn (Top k main) (whole_scope (map source_of rs))) (sym (home_at rs i r fit at))
-          (whole_named rs (Top (home_of r) main) (module_named rs i r fit at (Top (home_of r) main) (m.main t)));
-      flags = m.flags;
+          (whole_named rs (Top (home_of r) main) (module_named rs i r fit at (Top (home_of r) main) (m t)));
+      flags = words_are_fields r.main;
     })
     (source_at rs i r at) linked
 

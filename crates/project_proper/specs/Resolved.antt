@@ -1,17 +1,17 @@
 -- Modules, resolved one after another without faults, and what a link takes of them.
 use Rattle.std.specs.Prelude.{◌≡◌, ℕ, List, [], ◌∷◌, ◌++◌, true, false, Option, Some, ◌⊎◌, map, flat_map, codes}
 use Rattle.std.specs.Prelude.{is_some, slice_get}
-use Rattle.std.specs.List.{list_any}
+use Rattle.std.specs.List.{list_any, Contains}
 use Rattle.elm_base.specs.Units.{text_units}
 use Rattle.elm_tree.specs.Tree as tree
-use Rattle.elm_canon.specs.Names.{same_name}
+use Rattle.elm_canon.specs.Names.{Name, same_name}
 use Rattle.elm_canon.specs.Tree as canon
-use Rattle.elm_canon.specs.Tree.{Declaration}
+use Rattle.elm_canon.specs.Tree.{Declaration, UnionDeclaration, AliasDeclaration}
 use Rattle.elm_canon.specs.declared.reference.Ref.{Ref}
 use Rattle.elm_canon.specs.declared.reference.Ref.TheVariants.{Top}
 use Rattle.elm_type.specs.Types.{Scheme}
 use Rattle.canon_env.specs.Env.{Known}
-use Rattle.canon_env.specs.Exposing.{is_operator, operator_home}
+use Rattle.canon_env.specs.Exposing.{is_among, is_operator, operator_home}
 use Rattle.canon_env.specs.Shown.{Shown}
 use Rattle.canon_module.specs.Resolve.{Setting, IsModule, module_faults, module_shows}
 use Rattle.elm_proper.specs.Spelled.{is_module}
@@ -21,9 +21,9 @@ use Rattle.canon_proper.specs.Worlds.{operator_ref}
 use Rattle.module_proper.specs.Modules.{AreRead, AreBare, value_refs}
 use Rattle.core_functions.specs.Cores.{cores_of, without_cores}
 use Rattle.fragments.specs.Made.{refs_used}
-use Rattle.emit_size_laws.specs.Small.{NamedProgram, FlagsHaveFields}
+use Rattle.emit_size_laws.specs.Small.{NamedProgram}
 use Rattle.link.specs.Link.{Output, Links, link}
-use Rattle.link.specs.Programs.{Source, part_of, program_of, flags_by}
+use Rattle.link.specs.Programs.{Source, part_of, program_of}
 use Rattle.link_proper.specs.Modules.{AreProper}
 
 -- a module: its path, what it was resolved against, its tree, what it means, and the type of its `main`, if it has one
@@ -52,10 +52,18 @@ scope_after rs = after_declarations (all_declarations rs) []
 abbrev pub ShowsTypes : Shown → Type 0
 ShowsTypes s = (s.values ≡ []) × ((s.aliases ≡ []) × AreBare s.unions)
 
-abbrev pub IsShownBy : Resolved → Known → Type 0
-IsShownBy r k = (k.import.home ≡ r.setting.home) × (k.shown ≡ module_shows r.setting r.written r.whole)
+-- what is shown is no more than another thing shows
+pub record ShowsWithin (s whole : Shown) : Type 0 where
+  pub values : (x : Name) → is_among x s.values ≡ true → is_among x whole.values ≡ true
+  pub unions : (u : UnionDeclaration) → Contains s.unions u → Contains whole.unions u
+  pub aliases : (a : AliasDeclaration) → Contains s.aliases a → Contains whole.aliases a
 
--- an import of one of these modules, with what the module shows; or of types without a text
+-- it is of that module, and shows no more than the module does
+abbrev pub IsShownBy : Resolved → Known → Type 0
+IsShownBy r k =
+    (k.import.home ≡ r.setting.home) × ShowsWithin k.shown (module_shows r.setting r.written r.whole)
+
+-- an import of one of these modules, or of types without a text
 abbrev pub IsImport : List Resolved → Known → Type 0
 IsImport [] k = ShowsTypes k.shown
 IsImport (r ∷ rs) k = IsShownBy r k ⊎ IsImport rs k
@@ -107,12 +115,11 @@ pub record AreResolved (rs : List Resolved) : Type 0 where
 abbrev pub ResolvedAreProper : Type 0
 ResolvedAreProper = (rs : List Resolved) → AreResolved rs → AreProper (map source_of rs)
 
--- the entry of a link, one of these modules: a `main` that has a type is one of its values, and the records of its
--- flags have words for fields, each once
-pub record IsMain (r : Resolved) : Type 0 where
-  pub main : is_some r.main ≡ true
-      → IsIn (Top r.setting.home (codes "main")) (value_refs r.setting.home r.written.declarations)
-  pub flags : FlagsHaveFields (flags_by r.main)
+-- the entry of a link, one of these modules: a `main` that has a type is one of its values
+abbrev pub IsMain : Resolved → Type 0
+IsMain r =
+    is_some r.main ≡ true →
+    IsIn (Top r.setting.home (codes "main")) (value_refs r.setting.home r.written.declarations)
 
 -- then the program that a link without faults makes has proper names
 abbrev pub ResolvedLinks : Type 0

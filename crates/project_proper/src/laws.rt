@@ -12,8 +12,7 @@ pub fn project_law()
     ensures values { ValuesInScope }
 {}
 
-/// The records of an entry's flags have words for fields, each once, where those in the type of its `main` are words in
-/// ascending order.
+/// The records of an entry's flags have words for fields, each once.
 pub fn flags_law()
     ensures { WordsAreFields }
 {}

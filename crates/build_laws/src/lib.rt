@@ -1,0 +1,4 @@
+//! What builds of good modules link.
+#![tactic(auto)]
+
+pub mod laws;

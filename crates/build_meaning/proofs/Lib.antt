@@ -1,0 +1,2 @@
+-- what the output of a build means
+pub mod Meaning

@@ -1,0 +1,4 @@
+//! The output of a build means what its modules mean.
+#![tactic(auto)]
+
+pub mod laws;

@@ -1,0 +1,2 @@
+-- a build has one outcome
+pub mod Once

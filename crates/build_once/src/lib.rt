@@ -1,0 +1,4 @@
+//! A build has one outcome.
+#![tactic(auto)]
+
+pub mod laws;
