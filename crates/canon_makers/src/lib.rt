@@ -1,0 +1,4 @@
+//! The constructors that a resolved module mentions, and the names that it binds.
+#![tactic(auto)]
+
+pub mod laws;

@@ -1,0 +1,2 @@
+//! Canonical trees whose constructors meet conditions.
+#![tactic(auto)]

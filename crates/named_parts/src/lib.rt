@@ -1,0 +1,4 @@
+//! What the resolution of names gives the law of typed programs.
+#![tactic(auto)]
+
+pub mod laws;

@@ -1,0 +1,7 @@
+pub mod Names
+pub mod Uses
+pub mod Lets
+pub mod Resolved
+mod Forms
+mod Inferred
+mod Placed

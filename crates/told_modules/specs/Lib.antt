@@ -1,0 +1,4 @@
+pub mod Told
+pub mod Names
+pub mod Resolved
+pub mod Parts

@@ -1,0 +1,4 @@
+//! What names and inference give the law of typed programs.
+#![tactic(auto)]
+
+pub mod laws;
