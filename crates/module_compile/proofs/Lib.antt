@@ -1,0 +1,2 @@
+-- what a module without faults in its names compiles to
+mod After

@@ -1,0 +1,41 @@
+use Rattle.std.proofs.Common.{◌≡◌, map, sym, ap, ◌∙◌, subst, arith}
+use Rattle.elm_canon.specs.View.{module_view}
+use Rattle.canon_env.specs.Shown.{shown_view}
+use Rattle.canon_module.specs.declared.module.Resolved.{Resolved}
+use Rattle.canon_sites.specs.Order.{IsInOrder}
+use Rattle.pattern_faults.specs.Faults as patterns
+use Rattle.infer.specs.Types.{schemes_of}
+use Rattle.module_made.specs.Made.{Bad, fault_in}
+use Rattle.module_phases.specs.View.{around_view}
+use Rattle.module_compile.specs.Typing.{AfterNames}
+use Rattle.module_compile.proofs.After.{uncovered_after, fine_after}
+use Rattle.module_compile.proofs.compiling.covered.Goals as goal
+
+pub returns-then-len-ne0-clause-made : goal.returns-then-len-ne0-clause-made
+returns-then-len-ne0-clause-made c =
+    let a = around_view c.args.imports.now in
+    let path = c.args.path.now in
+    let m = module_view c.args.resolved.value.module in
+    let s = shown_view c.args.resolved.value.shown in
+    let found = c.in_ok-found.found.items in
+    let order : IsInOrder (patterns.module_faults m) found =
+    subst (λ (r : Resolved). IsInOrder (patterns.module_faults (module_view r.module)) found) c.deref.ensures
+    c.in_ok-found.ensures in
+    subst (λ fs. AfterNames a path m s (Bad fs))
+    (sym (c.in_ok-faults_of.ensures ∙ ap (map (fault_in path)) c.deref-then-len-ne0.ensures.value))
+    (uncovered_after a path m s (schemes_of c.args.told.now.types) c.requires.typed found
+    (λ e. omega (arith, c.if-len-ne0.true, c.len.ensures, e)) order)
+
+pub returns-clause-made : goal.returns-clause-made
+returns-clause-made c =
+    let a = around_view c.args.imports.now in
+    let path = c.args.path.now in
+    let m = module_view c.args.resolved.value.module in
+    let s = shown_view c.args.resolved.value.shown in
+    let found = c.in_ok-found.found.items in
+    let order : IsInOrder (patterns.module_faults m) found =
+    subst (λ (r : Resolved). IsInOrder (patterns.module_faults (module_view r.module)) found) c.deref.ensures
+    c.in_ok-found.ensures in
+    subst (AfterNames a path m s) (sym c.in_ok-made.ensures.made)
+    (fine_after a path m s (schemes_of c.args.told.now.types) c.requires.typed found
+    (omega (arith, c.if-len-ne0.false, c.len.ensures)) order)
