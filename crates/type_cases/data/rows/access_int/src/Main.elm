@@ -1,0 +1,4 @@
+module Main exposing (..)
+
+f =
+    (\n -> n.x) 1

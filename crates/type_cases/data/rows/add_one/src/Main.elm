@@ -1,0 +1,5 @@
+module Main exposing (..)
+
+g : number -> number
+g x =
+    x + 1

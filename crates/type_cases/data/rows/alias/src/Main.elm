@@ -1,0 +1,8 @@
+module Main exposing (..)
+
+type alias P a =
+    { x : a, y : Int }
+
+
+f =
+    P "a"

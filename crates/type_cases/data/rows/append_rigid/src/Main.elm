@@ -1,0 +1,5 @@
+module Main exposing (..)
+
+f : appendable -> appendable
+f x =
+    x ++ [ 1 ]

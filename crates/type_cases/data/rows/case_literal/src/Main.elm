@@ -1,0 +1,12 @@
+module Main exposing (..)
+
+f x =
+    case x of
+        1 ->
+            "a"
+
+        'b' ->
+            "b"
+
+        _ ->
+            ""

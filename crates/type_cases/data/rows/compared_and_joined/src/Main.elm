@@ -1,0 +1,4 @@
+module Main exposing (..)
+
+f a b =
+    ( a < b, a ++ b )

@@ -1,0 +1,4 @@
+module Main exposing (..)
+
+f =
+    String.length >> (\n -> n + 1)

@@ -1,0 +1,9 @@
+module Main exposing (..)
+
+f x =
+    let
+        g : b -> a -> a
+        g y z =
+            x
+    in
+    x

@@ -1,0 +1,4 @@
+module Main exposing (..)
+
+bad =
+    .z { x = 1, y = 2 }

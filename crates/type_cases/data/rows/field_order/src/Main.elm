@@ -1,0 +1,4 @@
+module Main exposing (..)
+
+f r =
+    r.b + r.a

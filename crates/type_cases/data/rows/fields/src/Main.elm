@@ -1,0 +1,4 @@
+module Main exposing (..)
+
+f r =
+    r.x + r.y

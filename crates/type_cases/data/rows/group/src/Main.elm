@@ -1,0 +1,8 @@
+module Main exposing (..)
+
+f x =
+    g x
+
+
+g x =
+    f x

@@ -1,0 +1,7 @@
+module Main exposing (..)
+
+f b =
+    if b then
+        1
+    else
+        "a"

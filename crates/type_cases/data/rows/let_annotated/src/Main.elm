@@ -1,0 +1,9 @@
+module Main exposing (..)
+
+f =
+    let
+        g : Int -> Int
+        g n =
+            "a"
+    in
+    g 1

@@ -1,0 +1,11 @@
+module Main exposing (..)
+
+f =
+    let
+        a =
+            b ++ "x"
+
+        b =
+            1
+    in
+    a

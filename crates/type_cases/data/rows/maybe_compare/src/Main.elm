@@ -1,0 +1,4 @@
+module Main exposing (..)
+
+f =
+    Just 1 < Nothing

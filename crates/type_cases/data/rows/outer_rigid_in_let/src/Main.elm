@@ -1,0 +1,9 @@
+module Main exposing (..)
+
+outer : a -> a
+outer x =
+    let
+        inner y =
+            ( x, y )
+    in
+    Tuple.first (inner 1)

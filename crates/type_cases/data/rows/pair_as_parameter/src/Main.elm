@@ -1,0 +1,4 @@
+module Main exposing (..)
+
+bad =
+    (\pair -> ( pair 1, pair "a" )) (\x -> ( x, x ))

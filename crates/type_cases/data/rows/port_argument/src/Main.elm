@@ -1,0 +1,6 @@
+port module Main exposing (..)
+
+port out : Int -> Cmd msg
+
+main =
+    out ()

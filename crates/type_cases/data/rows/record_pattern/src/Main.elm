@@ -1,0 +1,4 @@
+module Main exposing (..)
+
+f { x, y } =
+    x ++ y

@@ -1,0 +1,4 @@
+module Main exposing (..)
+
+x =
+    { x = 1 } < { x = 2 }

@@ -1,0 +1,5 @@
+module Main exposing (..)
+
+s : a -> Bool
+s x =
+    [ \y -> x ] == [ x ]

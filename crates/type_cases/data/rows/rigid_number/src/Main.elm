@@ -1,0 +1,5 @@
+module Main exposing (..)
+
+s : number -> Bool
+s x =
+    [ ( 1, x ) ] == [ x ]

@@ -1,0 +1,4 @@
+module Main exposing (..)
+
+f a =
+    a < "b" && a ++ "c" == a

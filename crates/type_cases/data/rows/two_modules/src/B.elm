@@ -1,0 +1,5 @@
+module B exposing (b)
+
+b : Int
+b =
+    "x"

@@ -1,0 +1,5 @@
+module C exposing (c)
+
+c : Int
+c =
+    "x"

@@ -1,0 +1,6 @@
+module D exposing (d)
+
+import B
+import C
+
+d = B.b

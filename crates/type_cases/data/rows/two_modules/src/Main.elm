@@ -1,0 +1,5 @@
+module Main exposing (..)
+
+import D
+
+x = D.d

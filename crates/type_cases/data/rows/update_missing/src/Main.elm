@@ -1,0 +1,8 @@
+module Main exposing (..)
+
+p =
+    { x = 1 }
+
+
+f =
+    { p | y = 2 }

@@ -1,0 +1,8 @@
+module Main exposing (..)
+
+p =
+    { x = "a" }
+
+
+f =
+    { p | x = 2 }

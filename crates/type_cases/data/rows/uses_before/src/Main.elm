@@ -1,0 +1,8 @@
+module Main exposing (..)
+
+f =
+    g + "a"
+
+
+g =
+    1
