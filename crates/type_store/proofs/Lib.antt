@@ -102,3 +102,5 @@ pub mod Deciding
 pub mod Resting
 -- a constant is let go
 pub mod Loosening
+-- the rows that a row leads to, and their fields in one
+pub mod Linking

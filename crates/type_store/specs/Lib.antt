@@ -14,3 +14,4 @@ pub mod Spreading
 pub mod Adding
 pub mod Building
 pub mod Insides
+pub mod Linked

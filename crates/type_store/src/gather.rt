@@ -9,6 +9,7 @@ ghost use Rattle.type_store.specs.View.{GatheredIs, NextIs, field_view, store_vi
 
 use crate::chain::find;
 use crate::copying::copy_fields;
+use crate::linked::gather_by_halves;
 use crate::slot::{Cell, FieldSlot, Slot};
 use crate::split::merge;
 use std::alloc::{AllocError, Global};
@@ -53,9 +54,8 @@ fn next_row(
     }
 }
 
-/// The fields of a row with those of the rows that it leads to. None where a name is there twice. The error means that
-/// memory ran out.
-pub(crate) fn gather(
+/// `gather`, where each row is read in turn, and its fields are put to those that there are.
+fn gather_in_turn(
     alloc: Global,
     slots: &[Slot],
     fields: &[FieldSlot],
@@ -102,4 +102,23 @@ pub(crate) fn gather(
         steps += 1;
     }
     Ok(None)
+}
+
+/// The fields of a row with those of the rows that it leads to. None where a name is there twice. The error means that
+/// memory ran out.
+pub(crate) fn gather(
+    alloc: Global,
+    slots: &[Slot],
+    fields: &[FieldSlot],
+    end: Option<u32>,
+) -> Result<Option<Gathered>, AllocError>
+    requires graph { IsGraph (store_view slots.now) }
+    requires inside { All (λ w. w < length slots.now) (end_slots end) }
+    requires rises { Ascending (field_names (map field_view fields.now)) }
+    ensures { IfOk result (λ gathered. GatheredIs (store_view slots.now) (map field_view fields.now) end gathered) }
+{
+    match gather_by_halves(alloc, slots, fields, end)? {
+        Some(gathered) => Ok(Some(gathered)),
+        None => gather_in_turn(alloc, slots, fields, end),
+    }
 }

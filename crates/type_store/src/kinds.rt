@@ -11,6 +11,7 @@ use crate::ask::Ask;
 use crate::asking::push_parts;
 use crate::change::{Change, write_class, write_lack};
 use crate::lookup::{is_field, is_in};
+use crate::orders::{Found, Orders};
 use crate::slot::{Cell, Slot};
 use elm_names::name::Name;
 use elm_type::class::Class;
@@ -122,6 +123,7 @@ pub(crate) fn step_lacks(
     slots: &mut [Slot],
     trail: &mut Vec<Change>,
     work: &mut Vec<Ask>,
+    orders: &mut Orders,
     variable: u32,
     name: Name,
 ) -> Result<bool, AllocError>
@@ -135,12 +137,14 @@ pub(crate) fn step_lacks(
         (solutions.Lacks variable name ∷ [])) }
 {
     let slot = &slots[variable as usize];
-    if is_in(&name, &slot.lacks) {
+    let found = orders.find(variable, &slot.lacks, &name)?;
+    if let Found::There = found {
         return Ok(true);
     }
     if !ask_lack(work, &slot.cell, &name)? {
         return Ok(false);
     }
+    orders.note(variable, found, slot.lacks.len())?;
     write_lack(slots, trail, variable, name)?;
     Ok(true)
 }

@@ -11,6 +11,7 @@ ghost use Rattle.type_store.specs.View.{ask_view, store_view, trail_view, work_v
 use crate::ask::Ask;
 use crate::change::Change;
 use crate::kinds::{step_class, step_lacks};
+use crate::orders::Orders;
 use crate::same::step_same;
 use crate::slot::Slot;
 use elm_names::name::Name;
@@ -42,6 +43,7 @@ fn lack_step(
     slots: &mut Vec<Slot>,
     trail: &mut Vec<Change>,
     work: &mut Vec<Ask>,
+    orders: &mut Orders,
     variable: u32,
     name: Name,
 ) -> Result<bool, AllocError>
@@ -54,7 +56,7 @@ fn lack_step(
     ensures no { IfOk result (λ done. done ≡ false → Clash (store_view slots.old.items)
         (solutions.Lacks variable name ∷ [])) }
 {
-    step_lacks(slots, trail, work, variable, name)
+    step_lacks(slots, trail, work, orders, variable, name)
 }
 
 /// Does what is asked. What this asks of other variables goes to the work. False where no solution lets it. The error
@@ -64,6 +66,7 @@ fn step(
     slots: &mut Vec<Slot>,
     trail: &mut Vec<Change>,
     work: &mut Vec<Ask>,
+    orders: &mut Orders,
     ask: Ask,
 ) -> Result<bool, AllocError>
     requires graph { IsGraph (store_view slots.old.items) }
@@ -77,7 +80,7 @@ fn step(
     match ask {
         Ask::Same(variable, other) => step_same(alloc, slots, trail, work, variable, other),
         Ask::InClass(variable, class) => class_step(slots, trail, work, variable, class),
-        Ask::Lacks(variable, name) => lack_step(slots, trail, work, variable, name),
+        Ask::Lacks(variable, name) => lack_step(slots, trail, work, orders, variable, name),
     }
 }
 
@@ -97,11 +100,12 @@ pub(crate) fn run(
     ensures no { IfOk result (λ done. done ≡ false → Clash (store_view slots.old.items)
         (work_view work.old.items)) }
 {
+    let mut orders = Orders::new(alloc);
     for _ in 0..u64::MAX {
         let Some(ask) = work.pop() else {
             return Ok(true);
         };
-        if !step(alloc, slots, trail, work, ask)? {
+        if !step(alloc, slots, trail, work, &mut orders, ask)? {
             return Ok(false);
         }
     }

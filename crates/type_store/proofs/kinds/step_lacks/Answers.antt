@@ -4,10 +4,10 @@ use Rattle.type_store.specs.View.{store_view, work_view}
 use Rattle.type_store.proofs.AtSlots.{at_lack_there, at_lack_clash, at_lack_step}
 use Rattle.type_store.proofs.kinds.step_lacks.Goals as goal
 
-pub returns-then-is_in-clause-yes : goal.returns-then-is_in-clause-yes
-returns-then-is_in-clause-yes c done =
+pub returns-in-There-clause-yes : goal.returns-in-There-clause-yes
+returns-in-There-clause-yes c done =
     at_lack_there c.args.slots.now c.args.variable c.index-slots-variable.result c.requires.inside c.requires.graph c.args.name (work_view c.args.work.now.items)
-    (ap (contains c.args.name) (sym c.deref.ensures.value) ∙ (sym c.is_in.ensures ∙ c.if-is_in.true))
+    (ap (contains c.args.name) (sym c.deref.ensures.value) ∙ c.in_ok-found.ensures c.in-There.is)
 
 pub returns-then-not-branch-clause-no : goal.returns-then-not-branch-clause-no
 returns-then-not-branch-clause-no c done =

@@ -3,7 +3,7 @@ use Rattle.type_store.specs.Shape.{Ascending}
 use Rattle.type_store.specs.Store.{field_names}
 use Rattle.type_store.specs.View.{field_view, store_view}
 use Rattle.type_store.proofs.Gathering.{Onward, Read}
-use Rattle.type_store.proofs.gather.gather.Given as goal
+use Rattle.type_store.proofs.gather.gather_in_turn.Given as goal
 
 abbrev pub invariant-loop-steps : goal.invariant-loop-steps
 invariant-loop-steps l = record {
