@@ -2,3 +2,5 @@
 pub mod Finding
 -- the name of an entry, directory by directory
 pub mod Naming
+-- names that are texts
+pub mod Texts

@@ -1,6 +1,6 @@
 -- Where the module of a name stands. (Elm guide, elm.json.)
-use Rattle.std.specs.Prelude.{◌≡◌, ℕ, ◌<◌, List, [], ◌∷◌, Option, Some, None, option_map, option_and_then, is_some}
-use Rattle.std.specs.Prelude.{if◌then◌else◌, nat_le, length, map, filter, string_bytes}
+use Rattle.std.specs.Prelude.{◌≡◌, ℕ, ◌<◌, ◌≤◌, List, [], ◌∷◌, Option, Some, None, option_map, option_and_then, is_some}
+use Rattle.std.specs.Prelude.{if◌then◌else◌, nat_le, length, map, filter, string_bytes, IfSome, ⊤}
 use Rattle.elm_files.specs.Tree.{Tree}
 use Rattle.project_file.specs.Paths.{inside, path_of}
 use Rattle.module_files.specs.declared.places.Source.{Source}
@@ -20,8 +20,18 @@ pub data Place : Type 0 where
 abbrev pub text_within : List ℕ → Option (List ℕ)
 text_within text = if nat_le (length text) 4194304 then Some text else None
 
+-- it is not over the limit
+abbrev pub Fits : Option (List ℕ) → Type 0
+Fits text = IfSome text (λ bytes. length bytes ≤ 4194304)
+
 abbrev pub text_at : Tree → List ℕ → Option (List ℕ)
 text_at tree path = option_and_then text_within (tree path)
+
+-- the text of the file is not over the limit
+abbrev pub FileFits : Place → Type 0
+FileFits Nowhere = ⊤
+FileFits (At path text) = Fits text
+FileFits Several = ⊤
 
 -- the paths at which there is a file
 abbrev pub existing : Tree → List (List ℕ) → List (List ℕ)

@@ -1,6 +1,6 @@
 //! The entry of a build.
 
-ghost use Rattle.std.specs.Prelude.{◌≡◌, ℕ, List, map, string_bytes, IfOk, IfSome, IfNone};
+ghost use Rattle.std.specs.Prelude.{◌≡◌, ℕ, List, map, string_bytes, IfOk, IfSome, IfNone, IsUtf8};
 ghost use Rattle.module_files.specs.Entries.{NamesBelow, NamesEntry};
 
 use elm_base::name::ModName;
@@ -19,6 +19,7 @@ pub fn entry_name(
     ensures found { IfOk result (λ answer. IfSome answer (NamesEntry path.now (map string_bytes directories.now))) }
     ensures only { IfOk result (λ answer. IfSome answer (λ name.
         (other : List ℕ) → NamesEntry path.now (map string_bytes directories.now) other → other ≡ name)) }
+    ensures text { IfOk result (λ answer. IfSome answer IsUtf8) }
     ensures none { IfOk result (λ answer. IfNone answer
         ((name : List ℕ) → NamesEntry path.now (map string_bytes directories.now) name → ⊥)) }
 {
@@ -35,6 +36,7 @@ fn name_below(alloc: Global, directory: &str, path: &str) -> Result<Option<ModNa
     ensures found { IfOk result (λ answer. IfSome answer (NamesBelow directory.now path.now)) }
     ensures only { IfOk result (λ answer. IfSome answer (λ name.
         (other : List ℕ) → NamesBelow directory.now path.now other → other ≡ name)) }
+    ensures text { IfOk result (λ answer. IfSome answer IsUtf8) }
     ensures none { IfOk result (λ answer. IfNone answer
         ((name : List ℕ) → NamesBelow directory.now path.now name → ⊥)) }
 {

@@ -4,7 +4,7 @@ ghost use Rattle.std.specs.Prelude.{◌≡◌, ◌≤◌, ℕ, List, IfOk, IfErr
 ghost use Rattle.std.specs.Prelude.{is_some};
 ghost use Rattle.elm_files.specs.Answers.{NoneFull};
 ghost use Rattle.module_files.specs.Places as plain;
-ghost use Rattle.module_files.specs.Places.{place_of, place_view, HasCause};
+ghost use Rattle.module_files.specs.Places.{place_of, place_view, Fits, FileFits, HasCause};
 
 use elm_base::text::Text;
 use elm_files::{FileError, Files, Got};
@@ -67,6 +67,7 @@ pub fn find<F: Files>(
     requires { NoneFull (F.faults files.old) }
     ensures place { IfOk result (λ place. IfSome (F.tree files.old) (λ tree.
         place_view place ≡ place_of tree (map string_bytes directories.now) name.now)) }
+    ensures fits { IfOk result (λ place. FileFits (place_view place)) }
     ensures tree { F.tree files.new ≡ F.tree files.old }
     ensures no_fault { OnOk result (F.faults files.new ≡ F.faults files.old) }
     ensures error { IfErr result (λ e. HasCause e (F.faults files.old) (F.faults files.new)) }
@@ -96,6 +97,7 @@ pub fn read<F: Files>(files: &mut F, path: String) -> Result<Option<Source>, Rea
     ensures source { IfOk result (λ file. IfSome file (λ s. s.path ≡ path)) }
     ensures text { IfOk result (λ file. IfSome file (λ s. IfSome (F.tree files.old) (λ tree.
         plain.text_view s ≡ plain.text_at tree (string_bytes path)))) }
+    ensures fits { IfOk result (λ file. IfSome file (λ s. Fits (plain.text_view s))) }
     ensures tree { F.tree files.new ≡ F.tree files.old }
     ensures no_fault { OnOk result (F.faults files.new ≡ F.faults files.old) }
     ensures error { IfErr result (λ e. HasCause e (F.faults files.old) (F.faults files.new)) }

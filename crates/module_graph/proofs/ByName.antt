@@ -1,5 +1,5 @@
 -- Modules under their names.
-use Rattle.std.proofs.Common.{◌≡◌, ◌≢◌, ℕ, ◌+◌, ◌≤◌, List, [], ◌∷◌, ◌++◌, length, map, Some, None, Bool, true, false, get_or}
+use Rattle.std.proofs.Common.{◌≡◌, ◌≢◌, ℕ, ◌+◌, ◌≤◌, List, [], ◌∷◌, ◌++◌, length, map, Some, None, Bool, true, false, get_or, ◌⊎◌, inl, inr, ⊎_elim}
 use Rattle.std.proofs.Common.{if◌then◌else◌, refl, sym, ap, ◌∙◌, subst, arith, append_assoc, append-nil}
 use Rattle.std.specs.Prelude.{◌↔◌}
 use Rattle.std.specs.Cmp.Lexicographic.{slice_cmp}
@@ -11,7 +11,8 @@ use Rattle.std.specs.declared.cmp.Ordering.TheVariants.{Less, Equal, Greater}
 use Rattle.std.specs.Str.{bytes_eq}
 use Rattle.std.specs.Map.{keys_of, lookup}
 use Rattle.std.proofs.lemmas.List.{length-map}
-use Rattle.std.proofs.lemmas.List.Elements.{All-nil, All-cons, All-head, All-tail}
+use Rattle.std.proofs.lemmas.List.Elements.{All-nil, All-cons, All-head, All-tail, Contains-append_left}
+use Rattle.std.proofs.lemmas.List.Elements.{Contains-append_right, Contains-append_cases}
 use Rattle.std.proofs.lemmas.List.Sorted.{All-permutation, Contains-permutation, IsPermutation-sym, length_permutation}
 use Rattle.std.proofs.lemmas.Slice.Eq.{bytes_eq-Decides}
 use Rattle.std.proofs.lemmas.Bool.{false_from_ne_true, false≢true}
@@ -20,7 +21,7 @@ use Rattle.std.proofs.lemmas.Map.Keys.{apart_from_distinct, sorted_from_all_adja
 use Rattle.std.proofs.lemmas.Map.Text.{is_eq-slice_cmp}
 use Rattle.indexmap.specs.IndexMap.{IndexMap, insert_entry}
 use Rattle.indexmap.proofs.CallerLemmas.{insert_entry-new}
-use Rattle.decl_groups.proofs.Basics.{first_member, later_member, member_map, map_member}
+use Rattle.decl_groups.proofs.Basics.{no_member, first_member, later_member, member_cases, member_map, map_member}
 use Rattle.module_walk.specs.Modules as walk
 use Rattle.module_walk.specs.Modules.{AreApart, sources}
 use Rattle.module_walk.specs.View.{module_view, source_view}
@@ -50,12 +51,17 @@ AreGivenApart ms = AreApart (sources (map module_view ms))
 pub record Kept (es : List Entry) (left all : List Module) : Type 0 where
   pub named : All IsNamed es
   pub few : length es + length left ≤ length all
+  pub among : (x : walk.Module) → Contains (plain_of es ++ map module_view left) x → Contains (map module_view all) x
+  pub names : (name : List ℕ) → Contains (names_of (map module_view all)) name
+      → Contains (keys_of es ++ names_of (map module_view left)) name
   pub same : AreGivenApart all → es ++ entries_of left ≡ entries_of all
 
 pub none_in : (es : List Entry) (all : List Module) → es ≡ [] → Kept es all all
 none_in es all e = record {
   named = subst (All IsNamed) (sym e) (All-nil IsNamed);
   few = omega (arith, ap length e);
+  among = λ x c. subst (λ xs. Contains (plain_of xs ++ map module_view all) x) e c;
+  names = λ name c. subst (λ xs. Contains (keys_of xs ++ names_of (map module_view all)) name) (sym e) c;
   same = λ a. ap (λ xs. xs ++ entries_of all) e;
 }
 
@@ -76,6 +82,48 @@ one_more m (e ∷ es) = at (bytes_eq m.name e.0) (one_more m es)
     at : (b : Bool) → length (insert_entry bytes_eq es m.name m) ≤ length es + 1 → length (if b then (e.0, m) ∷ es else e ∷ insert_entry bytes_eq es m.name m) ≤ length (e ∷ es) + 1
     at true l = omega arith
     at false l = omega (arith, l)
+
+-- a module of the entries was there, or is the one that went in
+one_among : (m : Module) (es : List Entry) (x : walk.Module) → Contains (plain_of (insert_entry bytes_eq es m.name m)) x
+    → Contains (plain_of es) x ⊎ (module_view m ≡ x)
+one_among m [] x c = ⊎_elim inr (λ k. absurd (no_member x k)) (member_cases (module_view m) x [] c)
+one_among m (e ∷ es) x c = at (bytes_eq m.name e.0) (one_among m es x) c
+  where
+    at : (b : Bool)
+        → (Contains (plain_of (insert_entry bytes_eq es m.name m)) x → Contains (plain_of es) x ⊎ (module_view m ≡ x))
+        → Contains (plain_of (if b then (e.0, m) ∷ es else e ∷ insert_entry bytes_eq es m.name m)) x
+        → Contains (plain_of (e ∷ es)) x ⊎ (module_view m ≡ x)
+    at true f c =
+        ⊎_elim inr (λ k. inl (later_member (module_view e.1) x (plain_of es) k))
+        (member_cases (module_view m) x (plain_of es) c)
+    at false f c =
+        ⊎_elim (λ h. inl (subst (Contains (plain_of (e ∷ es))) h (first_member (module_view e.1) (plain_of es))))
+        (λ k. ⊎_elim (λ l. inl (later_member (module_view e.1) x (plain_of es) l)) inr (f k))
+        (member_cases (module_view e.1) x (plain_of (insert_entry bytes_eq es m.name m)) c)
+
+-- each name that was there stays
+names_stay : (m : Module) (es : List Entry) (name : List ℕ) → Contains (keys_of es) name
+    → Contains (keys_of (insert_entry bytes_eq es m.name m)) name
+names_stay m [] name c = absurd (no_member name c)
+names_stay m (e ∷ es) name c = at (bytes_eq m.name e.0) (names_stay m es name)
+  where
+    at : (b : Bool) → (Contains (keys_of es) name → Contains (keys_of (insert_entry bytes_eq es m.name m)) name)
+        → Contains (keys_of (if b then (e.0, m) ∷ es else e ∷ insert_entry bytes_eq es m.name m)) name
+    at true f = c
+    at false f =
+        let rest = keys_of (insert_entry bytes_eq es m.name m) in
+        ⊎_elim (λ h. subst (Contains (e.0 ∷ rest)) h (first_member e.0 rest)) (λ k. later_member e.0 name rest (f k))
+        (member_cases e.0 name (keys_of es) c)
+
+-- and the one that went in has its own
+name_in : (m : Module) (es : List Entry) → Contains (keys_of (insert_entry bytes_eq es m.name m)) m.name
+name_in m [] = first_member m.name []
+name_in m (e ∷ es) = at (bytes_eq m.name e.0) (bytes_eq-Decides m.name e.0).0 (name_in m es)
+  where
+    at : (b : Bool) → (b ≡ true → m.name ≡ e.0) → Contains (keys_of (insert_entry bytes_eq es m.name m)) m.name
+        → Contains (keys_of (if b then (e.0, m) ∷ es else e ∷ insert_entry bytes_eq es m.name m)) m.name
+    at true h c = subst (Contains (e.0 ∷ keys_of es)) (sym (h refl)) (first_member e.0 (keys_of es))
+    at false h c = later_member e.0 m.name (keys_of (insert_entry bytes_eq es m.name m)) c
 
 abbrev first_or : Module → List Entry → Module
 first_or d [] = d
@@ -111,6 +159,31 @@ module _ {S : Type 0} where
       record {
         named = subst (All IsNamed) (sym put) (named_after one m.entries k.named);
         few = omega (arith, k.few, ap length put, one_more one m.entries, ap length is);
+        among = λ x c.
+            let old = plain_of m.entries in
+            let views : map module_view left ≡ module_view one ∷ map module_view rest = ap (map module_view) is in
+            let was = λ (d : Contains (module_view one ∷ map module_view rest) x).
+            k.among x (Contains-append_right old (map module_view left) x (subst (λ xs. Contains xs x) (sym views) d)) in
+            ⊎_elim
+            (λ d. ⊎_elim (λ l. k.among x (Contains-append_left old (map module_view left) x l))
+            (λ e. was (subst (Contains (module_view one ∷ map module_view rest)) e
+            (first_member (module_view one) (map module_view rest))))
+            (one_among one m.entries x (subst (λ es. Contains (plain_of es) x) put d)))
+            (λ d. was (later_member (module_view one) x (map module_view rest) d))
+            (Contains-append_cases (plain_of new) (map module_view rest) x c);
+        names = λ name c.
+            let others = names_of (map module_view rest) in
+            let views : names_of (map module_view left) ≡ one.name ∷ others =
+            ap (λ ms. names_of (map module_view ms)) is in
+            let here = λ (d : Contains (keys_of (insert_entry bytes_eq m.entries one.name one)) name).
+            Contains-append_left (keys_of new) others name (subst (λ es. Contains (keys_of es) name) (sym put) d) in
+            ⊎_elim (λ d. here (names_stay one m.entries name d))
+            (λ d. ⊎_elim
+            (λ e. here (subst (Contains (keys_of (insert_entry bytes_eq m.entries one.name one))) e
+            (name_in one m.entries)))
+            (λ l. Contains-append_right (keys_of new) others name l)
+            (member_cases one.name name others (subst (λ xs. Contains xs name) views d)))
+            (Contains-append_cases (keys_of m.entries) (names_of (map module_view left)) name (k.names name c));
         same = λ a.
             let now : m.entries ++ entry_of one ∷ entries_of rest ≡ entries_of all = ap (λ xs. m.entries ++ entries_of xs) (sym is) ∙ k.same a in
             let last = insert_entry-new bytes_eq m one.name one (none_before m.entries (entries_of rest) one all now a) in
@@ -148,11 +221,37 @@ reordered_few : (es fs : List Entry) (left all : List Module) → IsPermutation 
 reordered_few es fs left all p k =
     omega (arith, length-map fs (λ (y : Entry). module_view y.1), length_permutation es fs p, length-map all module_view, k.few)
 
+reordered_among : (es fs : List Entry) (left all : List Module) → IsPermutation es fs → Kept es left all
+    → (x : walk.Module) → Contains (plain_of fs) x → Contains (map module_view all) x
+reordered_among es fs left all p k x c =
+    let r = map_member (λ (y : Entry). module_view y.1) fs x c in
+    let there = Contains-permutation fs es r.0 (IsPermutation-sym es fs p) r.1 in
+    k.among x (Contains-append_left (plain_of es) (map module_view left) x
+    (subst (Contains (plain_of es)) r.2 (member_map (λ (y : Entry). module_view y.1) es r.0 there)))
+
+no_names : (left : List Module) (name : List ℕ) → length left ≡ 0 → Contains (names_of (map module_view left)) name → ⊥
+no_names [] name l c = no_member name c
+no_names (m ∷ left) name l c = omega (arith, l)
+
 -- the keys are the names
 pub keys_are : (es : List Entry) → All IsNamed es → keys_of es ≡ names_of (plain_of es)
 keys_are [] a = refl
 keys_are (e ∷ es) a =
     ap (λ x. x ∷ keys_of es) (All-head IsNamed e es a) ∙ ap (λ xs. e.1.name ∷ xs) (keys_are es (All-tail IsNamed e es a))
+
+reordered_names : (es fs : List Entry) (left all : List Module) → length left ≡ 0 → IsPermutation es fs → Kept es left all
+    → (name : List ℕ) → Contains (names_of (map module_view all)) name → Contains (names_of (plain_of fs)) name
+reordered_names es fs left all l p k name c =
+    ⊎_elim
+    (λ d.
+    let names : keys_of es ≡ names_of (plain_of es) = keys_are es k.named in
+    let m = map_member (λ (y : walk.Module). y.source.name) (plain_of es) name (subst (λ xs. Contains xs name) names d) in
+    let r = map_member (λ (y : Entry). module_view y.1) es m.0 m.1 in
+    let there = member_map (λ (y : Entry). module_view y.1) fs r.0 (Contains-permutation es fs r.0 p r.1) in
+    subst (Contains (names_of (plain_of fs))) m.2
+    (member_map (λ (y : walk.Module). y.source.name) (plain_of fs) m.0 (subst (Contains (plain_of fs)) r.2 there)))
+    (λ d. absurd (no_names left name l d))
+    (Contains-append_cases (keys_of es) (names_of (map module_view left)) name (k.names name c))
 
 -- ---- in ascending order
 
@@ -175,5 +274,7 @@ all_told es fs left all given g l k p s d =
     subst (λ ms. IsOf (map module_view ms) (plain_of fs)) g (record {
       ascend = subst (IsStrictlySortedBy (slice_cmp nat_cmp)) (keys_are fs (reordered_named es fs p k.named)) (ascending (keys_of fs) s d);
       few = reordered_few es fs left all p k;
+      among = reordered_among es fs left all p k;
+      names = reordered_names es fs left all l p k;
       same = λ a. reordered es fs all (all_in es left all k l a) p;
     })

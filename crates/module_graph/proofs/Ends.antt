@@ -1,17 +1,17 @@
 -- How a crawl ends.
 use Rattle.std.proofs.Common.{◌≡◌, ℕ, ◌≤◌, List, length, get_or, sym, subst, arith}
-use Rattle.std.specs.List.{Contains}
-use Rattle.std.proofs.lemmas.List.Elements.{All-contains, Contains-get_or}
+use Rattle.std.specs.List.{All, Contains}
+use Rattle.std.proofs.lemmas.List.Elements.{All-contains, All-contains_itself, All-weaker, Contains-get_or}
 use Rattle.elm_base.specs.declared.fault.Code.TheVariants.{EntryNotFound, TooManyModules}
 use Rattle.elm_base.specs.declared.fault.Fault.{Fault}
 use Rattle.decl_groups.proofs.Basics.{member_map, map_member}
-use Rattle.module_walk.specs.Entry.{IsEntry}
+use Rattle.module_walk.specs.Entry.{IsEntry, HasEntry}
 use Rattle.module_walk.specs.Modules.{Setting, Word, Source, Module, sources, IsWhole, IsReached, AreReached}
 use Rattle.module_walk.specs.View.{HasReason}
 use Rattle.module_walk.specs.declared.walk.ReachError.{ReachError}
 use Rattle.module_walk.specs.declared.walk.ReachError.TheVariants as reach
 use Rattle.module_graph.specs.Faults.{entry_fault}
-use Rattle.module_graph.specs.Graph.{AreModules}
+use Rattle.module_graph.specs.Graph.{AreModules, names_of}
 use Rattle.module_graph.specs.View.{IsOf, HasEnd, IfRefused, IsEndOf}
 use Rattle.module_graph.specs.declared.crawling.CrawlEnd.{CrawlEnd}
 use Rattle.module_graph.specs.declared.crawling.CrawlEnd.TheVariants as end
@@ -37,6 +37,16 @@ module _ (has_imports : List ℕ → List Word → Type 0) (s : Setting) (given 
       whole m i =
           let x = map_member (λ (y : Module). y.source) given m (r.2.whole m i) in
           subst (Contains (sources ms)) x.2 (member_map (λ (y : Module). y.source) ms x.0 ((is.same r.2.apart x.0).1 x.1))
+
+module _ (given ms : List Module) (is : IsOf given ms) where
+  -- what holds of all that are given holds of each
+  pub all_given : (P : Module → Type 0) → All P given → All P ms
+  all_given P a =
+      All-weaker (Contains ms) P (λ x c. All-contains P given x a (is.among x c)) ms (All-contains_itself ms)
+
+  pub entry_given : (directories : List (List ℕ)) (written : List ℕ) → HasEntry directories written (names_of given)
+      → HasEntry directories written (names_of ms)
+  entry_given directories written h = (h.0, h.1, is.names h.0 h.2)
 
 -- ---- with an error
 

@@ -1,7 +1,7 @@
 -- What modules by number and ends of a crawl tell.
 use Rattle.std.specs.Prelude.{◌≡◌, ℕ, ◌<◌, ◌≤◌, List, length, map, ⊤, ◌↔◌}
 use Rattle.std.specs.List.{All, Contains}
-use Rattle.module_graph.specs.Graph.{Ascend}
+use Rattle.module_graph.specs.Graph.{Ascend, names_of}
 use Rattle.module_graph.specs.declared.crawling.CrawlEnd.{CrawlEnd}
 use Rattle.module_graph.specs.declared.crawling.CrawlEnd.TheVariants.{Refused, File, NoMemory}
 use Rattle.module_graph.specs.declared.crawling.Graph as program
@@ -26,10 +26,12 @@ module _ {S : Type 0} where
 abbrev pub graph_modules : program.Graph → List walk.Module
 graph_modules g = modules_of g.modules
 
--- given modules in ascending order of names: all of them, where no two have one name
+-- given modules in ascending order of names: one of each name, and all of them where no two have one name
 pub record IsOf (given ms : List walk.Module) : Type 0 where
   pub ascend : Ascend ms
   pub few : length ms ≤ length given
+  pub among : (x : walk.Module) → Contains ms x → Contains given x
+  pub names : (name : List ℕ) → Contains (names_of given) name → Contains (names_of ms) name
   pub same : walk.AreApart (walk.sources given) → (x : walk.Module) → Contains ms x ↔ Contains given x
 
 -- a crawl ends for a fault of which this holds, with a path whose count of failures rose, or out of memory, where no

@@ -1,16 +1,20 @@
 //! The import graph of a project.
 
 ghost use Rattle.std.specs.Prelude.{◌≡◌, ◌≤◌, ℕ, List, [], length, map, IfOk, IfErr, OnOk, IfSome};
+ghost use Rattle.std.specs.List.{All};
 ghost use Rattle.decl_groups.specs.Groups as groups;
 ghost use Rattle.elm_files.specs.Answers.{NoneFull};
 ghost use Rattle.import_graph.specs.Order.{IsOrder, IsRing};
+ghost use Rattle.module_walk.specs.Entry.{HasEntry};
 ghost use Rattle.module_walk.specs.Modules as walk;
+ghost use Rattle.module_walk.specs.Plain.{IsPlain};
 ghost use Rattle.module_walk.specs.View.{setting, module_view};
 ghost use Rattle.module_graph.specs.Graph as numbered;
 ghost use Rattle.module_graph.specs.Graph.{AreModules, AreNumbered};
 ghost use Rattle.module_graph.specs.Faults as plain;
 ghost use Rattle.module_graph.specs.Faults.{IsRefused};
 ghost use Rattle.module_graph.specs.View.{graph_modules, AreNamed, IsOf, HasEnd, IfRefused, IsEndOf};
+ghost use Rattle.project_file.specs.View.{directories_of};
 
 use crate::faults::{entry_fault, ring_fault};
 use crate::numbers::{by_name, uses_of};
@@ -89,6 +93,9 @@ pub fn crawl<F: Files, R: Reader>(
     requires { NoneFull (F.faults files.old) }
     ensures modules { IfOk result (λ graph. IfSome (F.tree files.old) (λ tree.
         AreModules R.has_imports (setting tree project.now core.now.keys) entry.now (graph_modules graph))) }
+    ensures plain { IfOk result (λ graph. All (IsPlain core.now.keys) (graph_modules graph)) }
+    ensures entry { IfOk result (λ graph. HasEntry (directories_of project.now) entry.now
+        (numbered.names_of (graph_modules graph))) }
     ensures named { IfOk result (λ graph. AreNamed graph.modules) }
     ensures numbered { IfOk result (λ graph. AreNumbered (graph_modules graph)) }
     ensures uses { IfOk result (λ graph. groups.plain graph.uses.items ≡ numbered.uses_of (graph_modules graph)) }

@@ -12,3 +12,5 @@ pub mod Reasons
 pub mod Walking
 -- places in lists that grow
 pub mod Lists
+-- what holds of the walk whatever the files hold
+pub mod Plain

@@ -1,10 +1,14 @@
 -- The walk, by what is known after some steps; for private clauses.
 use Rattle.std.specs.Prelude.{◌≡◌, ℕ, ◌<◌, List, [], ◌∷◌, ◌++◌, Option, Some, None, ◌⊎◌, if◌then◌else◌, map, slice_get, IsSome}
-use Rattle.std.specs.List.{Contains}
-use Rattle.std.specs.Str.{bytes_eq}
+use Rattle.std.specs.Prelude.{true, false, ⊤}
+use Rattle.std.specs.List.{All, Contains, list_any}
+use Rattle.std.specs.Str.{bytes_eq, IsUtf8}
 use Rattle.indexmap.specs.IndexMap.{get}
 use Rattle.module_walk.specs.Modules.{Setting, Word, Located, Nowhere, InCore, InFile, Several, Source, Import, Module, Imports}
 use Rattle.module_walk.specs.Modules.{IsReached, AreApart, located, kind_of, sources, imports_found}
+use Rattle.module_files.specs.Places as place
+use Rattle.module_files.specs.Places.{Place, Fits}
+use Rattle.module_walk.specs.Plain.{IsPlain}
 use Rattle.module_walk.specs.View.{module_view}
 use Rattle.module_walk.specs.declared.found.Found.{Found}
 use Rattle.module_walk.specs.declared.found.Found.TheVariants as kind
@@ -50,6 +54,28 @@ pub data Meets (s : Setting) (old new : program.Walk) (name : List ℕ) : Type 0
   first : known_at old.known name ≡ None
       → ((x : List ℕ) → known_at new.known x ≡ (if bytes_eq name x then Some (kind_of (located s name)) else known_at old.known x))
       → modules_of new ≡ modules_of old ++ added old.entry name (located s name) → new.entry ≡ old.entry → Meets s old new name
+
+-- ---- whatever the files hold
+
+-- the file of a name
+abbrev pub IsPlainPlace : List ℕ → Place → Type 0
+IsPlainPlace name place.Nowhere = ⊤
+IsPlainPlace name (place.At path text) = IsUtf8 name × Fits text
+IsPlainPlace name place.Several = ⊤
+
+-- the module of a name
+abbrev pub IsPlainFound : List (List ℕ) → List ℕ → Located → Type 0
+IsPlainFound core name Nowhere = ⊤
+IsPlainFound core name InCore = list_any (bytes_eq name) core ≡ true
+IsPlainFound core name (InFile path text) = IsUtf8 name × (list_any (bytes_eq name) core ≡ false) × Fits text
+IsPlainFound core name Several = ⊤
+
+-- the modules of the walk, and the names that were met
+pub record IsPlainWalk (core : List (List ℕ)) (w : program.Walk) : Type 0 where
+  pub modules : All (IsPlain core) (modules_of w)
+  pub known : (x : List ℕ) → known_at w.known x ≡ Some kind.Core → list_any (bytes_eq x) core ≡ true
+
+-- ---- by the files
 
 -- by what texts import
 module _ (has_imports : List ℕ → List Word → Type 0) where

@@ -4,8 +4,10 @@ ghost use Rattle.std.specs.Prelude.{◌≡◌, [], IfOk, IfErr, OnOk, IfSome, If
 ghost use Rattle.elm_files.specs.Answers.{NoneFull};
 ghost use Rattle.module_files.specs.Places.{HasCause};
 ghost use Rattle.module_walk.specs.Modules.{Source};
-ghost use Rattle.module_walk.specs.Entry.{IsEntry, HasNoEntry};
-ghost use Rattle.module_walk.specs.View.{setting, source_view};
+ghost use Rattle.module_walk.specs.Entry.{IsEntry, IsEntryName, HasNoEntry};
+ghost use Rattle.module_walk.specs.Plain.{IsPlain};
+ghost use Rattle.module_walk.specs.View.{setting, source_view, module_view};
+ghost use Rattle.project_file.specs.View.{directories_of};
 
 use crate::walk::Module;
 use elm_base::name::ModName;
@@ -31,6 +33,9 @@ pub(crate) fn entry_module<F: Files>(
         IsEntry (setting tree project.now core.now.keys) written.now (source_view m)))) }
     ensures only { IfOk result (λ answer. IfSome answer (λ m. IfSome (F.tree files.old) (λ tree. (other : Source)
         → IsEntry (setting tree project.now core.now.keys) written.now other → other ≡ source_view m))) }
+    ensures plain { IfOk result (λ answer. IfSome answer (λ m. IsPlain core.now.keys (module_view m))) }
+    ensures named { IfOk result (λ answer. IfSome answer (λ m.
+        IsEntryName (directories_of project.now) written.now m.name)) }
     ensures none { IfOk result (λ answer. IfNone answer (IfSome (F.tree files.old) (λ tree.
         HasNoEntry (setting tree project.now core.now.keys) written.now))) }
     ensures tree { F.tree files.new ≡ F.tree files.old }

@@ -8,6 +8,7 @@ ghost use Rattle.module_files.specs.Places.{place_of, place_view, HasCause};
 ghost use Rattle.project_file.specs.View.{directories_of};
 ghost use Rattle.module_walk.specs.Modules as plain;
 ghost use Rattle.module_walk.specs.View.{setting, located_view};
+ghost use Rattle.module_walk.specs.Walk.{IsPlainPlace, IsPlainFound};
 
 use elm_base::text::Text;
 use elm_files::Files;
@@ -50,6 +51,7 @@ pub(crate) fn locate<F: Files>(
     requires { NoneFull (F.faults files.old) }
     ensures located { IfOk result (λ located. IfSome (F.tree files.old) (λ tree.
         located_view located ≡ plain.located (setting tree project.now core.now.keys) name.now)) }
+    ensures plain { IfOk result (λ located. IsPlainFound core.now.keys name.now (located_view located)) }
     ensures tree { F.tree files.new ≡ F.tree files.old }
     ensures no_fault { OnOk result (F.faults files.new ≡ F.faults files.old) }
     ensures error { IfErr result (λ e. HasCause e (F.faults files.old) (F.faults files.new)) }
@@ -68,6 +70,7 @@ fn place<F: Files>(
     requires { NoneFull (F.faults files.old) }
     ensures place { IfOk result (λ place. IfSome (F.tree files.old) (λ tree. place_view place
         ≡ (if is_utf8 name.now then place_of tree (directories_of project.now) name.now else places.Nowhere))) }
+    ensures plain { IfOk result (λ place. IsPlainPlace name.now (place_view place)) }
     ensures tree { F.tree files.new ≡ F.tree files.old }
     ensures no_fault { OnOk result (F.faults files.new ≡ F.faults files.old) }
     ensures error { IfErr result (λ e. HasCause e (F.faults files.old) (F.faults files.new)) }

@@ -2,13 +2,17 @@
 
 ghost use Rattle.std.specs.Prelude.{◌≡◌, ℕ, ◌<◌, ◌≤◌, ◌+◌, ◌++◌, ◌∷◌, [], Some, None, List, length, map};
 ghost use Rattle.std.specs.Prelude.{slice_get, slice_set, IfOk, IfErr, OnOk, IfSome};
+ghost use Rattle.std.specs.List.{All, Contains};
 ghost use Rattle.std.specs.Vec.{vec_len};
 ghost use Rattle.elm_files.specs.Answers.{NoneFull};
 ghost use Rattle.module_files.specs.Places.{HasCause};
-ghost use Rattle.module_walk.specs.Entry.{IsEntry, HasNoEntry};
+ghost use Rattle.project_file.specs.View.{directories_of};
+ghost use Rattle.module_walk.specs.Entry.{IsEntry, HasEntry, HasNoEntry};
 ghost use Rattle.module_walk.specs.Modules.{Word, Source, Imports, AreReached, AreTooMany, kind_of};
+ghost use Rattle.module_walk.specs.Plain.{IsPlain, IsPlainImport, names_of};
 ghost use Rattle.module_walk.specs.View.{setting, located_view, import_view, source_view, module_view, HasReason};
-ghost use Rattle.module_walk.specs.Walk.{known_at, modules_of, added, IsWalk, IsWalked, Grows, IsReadAt, Meets};
+ghost use Rattle.module_walk.specs.Walk.{known_at, modules_of, walk_sources, added, IsWalk, IsWalked, Grows, IsReadAt};
+ghost use Rattle.module_walk.specs.Walk.{IsPlainWalk, Meets};
 ghost use Rattle.module_walk.specs.Words.{word_view};
 ghost use Rattle.module_walk.specs.View.{with_imports};
 ghost use Rattle.module_walk.specs.declared.walk.Module.{Module as PlainModule};
@@ -129,6 +133,9 @@ pub fn reach<F: Files, R: Reader>(
     ensures reached { IfOk result (λ modules. IfSome (F.tree files.old) (λ tree. (m : Source)
         × IsEntry (setting tree project.now core.now.keys) entry.now m
         × AreReached R.has_imports (setting tree project.now core.now.keys) m (map module_view modules.items))) }
+    ensures plain { IfOk result (λ modules. All (IsPlain core.now.keys) (map module_view modules.items)) }
+    ensures entry { IfOk result (λ modules. HasEntry (directories_of project.now) entry.now
+        (names_of (map module_view modules.items))) }
     ensures count { IfOk result (λ modules. vec_len modules ≤ 4096) }
     ensures tree { F.tree files.new ≡ F.tree files.old }
     ensures no_fault { OnOk result (F.faults files.new ≡ F.faults files.old) }
@@ -153,10 +160,13 @@ fn walk_from<F: Files, R: Reader>(
     core: &IndexSet<Text>,
     first: Module,
 ) -> Result<Walk, ReachError>
-    requires { NoneFull (F.faults files.old) }
+    requires not_full { NoneFull (F.faults files.old) }
+    requires plain { IsPlain core.now.keys (module_view first) }
     ensures reached { IfOk result (λ walk. IfSome (F.tree files.old) (λ tree.
         AreReached R.has_imports (setting tree project.now core.now.keys) (source_view first)
         (map module_view walk.modules.items))) }
+    ensures plain { IfOk result (λ walk. All (IsPlain core.now.keys) (modules_of walk)) }
+    ensures first { IfOk result (λ walk. Contains (walk_sources walk) (source_view first)) }
     ensures count { IfOk result (λ walk. vec_len walk.modules ≤ 4096) }
     ensures tree { F.tree files.new ≡ F.tree files.old }
     ensures no_fault { OnOk result (F.faults files.new ≡ F.faults files.old) }
@@ -205,6 +215,9 @@ impl Walk {
         ensures walked { OnOk result (IfSome (F.tree files.old) (λ tree. (m : Source)
             → IsWalked R.has_imports (setting tree project.now core.now.keys) m self.old index
             → IsWalked R.has_imports (setting tree project.now core.now.keys) m self.new (index + 1))) }
+        ensures plain { OnOk result (IsPlainWalk core.now.keys self.old → IsPlainWalk core.now.keys self.new) }
+        ensures sources { OnOk result ((m : Source) → Contains (walk_sources self.old) m
+            → Contains (walk_sources self.new) m) }
         ensures few { OnOk result (vec_len self.new.modules ≤ 4096) }
         ensures tree { F.tree files.new ≡ F.tree files.old }
         ensures no_fault { OnOk result (F.faults files.new ≡ F.faults files.old) }
@@ -241,6 +254,8 @@ impl Walk {
         ensures walk { OnOk result (IfSome (F.tree files.old) (λ tree. (m : Source)
             → IsWalk R.has_imports (setting tree project.now core.now.keys) m self.old
             → IsWalk R.has_imports (setting tree project.now core.now.keys) m self.new)) }
+        ensures plain { IfOk result (λ imports. IsPlainWalk core.now.keys self.old
+            → IsPlainWalk core.now.keys self.new × All (IsPlainImport core.now.keys) (map import_view imports.items)) }
         ensures grows { OnOk result (Grows self.old self.new) }
         ensures few { OnOk result (vec_len self.new.modules ≤ 4096) }
         ensures tree { F.tree files.new ≡ F.tree files.old }
@@ -279,6 +294,7 @@ impl Walk {
         ensures met { IfOk result (λ found. known_at self.new.known name.now ≡ Some found) }
         ensures step { OnOk result (IfSome (F.tree files.old) (λ tree.
             Meets (setting tree project.now core.now.keys) self.old self.new name.now)) }
+        ensures plain { OnOk result (IsPlainWalk core.now.keys self.old → IsPlainWalk core.now.keys self.new) }
         ensures grows { OnOk result (Grows self.old self.new) }
         ensures count { OnOk result (vec_len self.new.modules ≤ vec_len self.old.modules + 1) }
         ensures tree { F.tree files.new ≡ F.tree files.old }

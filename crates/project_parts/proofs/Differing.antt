@@ -1,34 +1,34 @@
 -- The names of the modules of a build differ, and their texts are within the limit.
-use Rattle.std.proofs.Common.{◌≡◌, ◌≢◌, ℕ, zero, suc, ◌+◌, ◌<◌, ◌≤◌, List, [], ◌∷◌, ◌++◌, length, map, take, get_or}
-use Rattle.std.proofs.Common.{Some, None}
+use Rattle.std.proofs.Common.{◌≡◌, ℕ, zero, suc, ◌+◌, ◌<◌, List, [], ◌∷◌, ◌++◌, length, map, take}
+use Rattle.std.proofs.Common.{Some}
 use Rattle.std.proofs.Common.{Bool, true, false, not, ◌&&◌, ⊎_elim, refl, sym, ap, subst, ◌∙◌, arith}
 use Rattle.std.specs.Prelude.{slice_get, slice_index, option_map, nat_lt}
 use Rattle.std.specs.Cmp.Lexicographic.{slice_cmp}
 use Rattle.std.specs.Ordering.{nat_cmp, ordering_reverse}
 use Rattle.std.specs.declared.cmp.Ordering.TheVariants.{Less, Greater}
-use Rattle.std.specs.List.{AllByRecursion, Contains, filter_map, list_any, list_all}
+use Rattle.std.specs.List.{AllByRecursion, filter_map, list_any, list_all}
 use Rattle.std.specs.List.Sorted.{IsStrictlySortedBy}
 use Rattle.std.specs.Str.{bytes_eq, IsUtf8}
-use Rattle.std.proofs.lemmas.Bool.{cases_lt, cases_eq, false≢true}
+use Rattle.std.proofs.lemmas.Bool.{cases_lt, false≢true}
 use Rattle.std.proofs.lemmas.Cmp.{nat_list_cmp_total}
-use Rattle.std.proofs.lemmas.List.{length-map}
+use Rattle.std.proofs.lemmas.List.Elements.{All-contains}
 use Rattle.std.proofs.lemmas.Map.Keys.{sorted_head, sorted_tail, any_passes_from_place}
-use Rattle.std.proofs.lemmas.Option.{slice_get-map, slice_get_within}
+use Rattle.std.proofs.lemmas.Option.{slice_get-map}
 use Rattle.std.proofs.lemmas.Slice.Eq.{bytes_eq-Decides}
 use Rattle.std.proofs.lemmas.Bool.Decides.{nat_tests}
 use Rattle.std.proofs.lemmas.Str.{IsUtf8-from_ascii}
 use Rattle.core_modules.specs.Library.{core_library}
-use Rattle.decl_groups.proofs.Basics.{member_map, first_member, later_member}
 use Rattle.import_graph.specs.Order.{IsOrder}
-use Rattle.module_graph.specs.Graph.{names_of, Ascend, uses_of}
-use Rattle.module_walk.specs.Modules.{Module, Source, sources}
-use Rattle.project_build.specs.Modules.{Part, core_names, core_part, project_part, parts_of, name_of, home_of}
-use Rattle.project_parts.specs.Laws.{AreOfBuild, HomesApart, Fits, Fit}
-use Rattle.project_parts.proofs.Lower.{order_within}
-use Rattle.project_parts.proofs.Naming.{core_names_are, core_at, part_names}
+use Rattle.module_graph.specs.Graph.{names_of}
+use Rattle.module_walk.specs.Modules.{Module, Source}
+use Rattle.module_walk.specs.Plain.{IsPlain}
+use Rattle.project_build.specs.Modules.{Part, core_names, core_part, project_part, parts_of, name_of}
+use Rattle.project_parts.specs.Laws.{AreToBuild, HomesApart, Fits, Fit, IsBuild}
+use Rattle.project_parts.proofs.Lower.{names, order_within, ordered}
+use Rattle.project_parts.proofs.Naming.{core_at}
 use Rattle.project_parts.proofs.Ordering.{ready_at}
 use Rattle.project_parts.proofs.Placing.{Names, got_cases, given_got, got_member, mapped, image}
-use Rattle.project_parts.proofs.Reached.{IsSound, reached_sound, within_fits}
+use Rattle.project_parts.proofs.Reached.{within_fits}
 use Rattle.project_parts.proofs.Texts.{same_texts}
 
 -- ---- lists without repeats
@@ -130,35 +130,26 @@ all_at (y ∷ ys) zero x a e =
     subst IsUtf8 s (IsUtf8-from_ascii y (ascii_at y (both (is_ascii y) (list_all is_ascii ys) a).0))
 all_at (y ∷ ys) (suc k) x a e = all_at ys k x (both (is_ascii y) (list_all is_ascii ys) a).1 e
 
-module _ (core ms : List Module) (order : List ℕ) (b : AreOfBuild core ms order) where
+module _ (core ms : List Module) (order : List ℕ) (b : AreToBuild core ms order) where
   abbrev parts : List Part
   parts = parts_of core ms order
 
   abbrev there : List Module
   there = filter_map (slice_get ms) order
 
-  names : map name_of parts ≡ core_names ++ names_of there
-  names =
-      part_names core ms order ∙ ap (λ xs. xs ++ names_of there) (core_names_are [] core_library core b.are_core)
+  plain_at : (n : ℕ) (m : Module) → slice_get ms n ≡ Some m → IsPlain core_names m
+  plain_at n m e = All-contains (IsPlain core_names) ms m b.plain (got_member ms n m e)
 
-  sound_at : (n : ℕ) (m : Module) → slice_get ms n ≡ Some m → IsSound b.setting m.source
-  sound_at n m e =
-      reached_sound b.setting b.written b.are_modules.entry m.source b.is_text b.are_modules.is_entry
-      ((b.are_modules.members m.source).0 (member_map (λ (x : Module). x.source) ms m (got_member ms n m e)))
+  there_plain : (j : ℕ) (m : Module) → slice_get there j ≡ Some m → IsPlain core_names m
+  there_plain j m e =
+      let r = given_got ms order j m (order_within core ms order b) e in plain_at r.0 m r.2
 
-  there_sound : (j : ℕ) (m : Module) → slice_get there j ≡ Some m → IsSound b.setting m.source
-  there_sound j m e =
-      let r = given_got ms order j m (order_within core ms order b) e in sound_at r.0 m r.2
-
-  name_sound : (j : ℕ) (x : List ℕ) → slice_get (names_of there) j ≡ Some x
+  name_plain : (j : ℕ) (x : List ℕ) → slice_get (names_of there) j ≡ Some x
       → IsUtf8 x × (list_any (bytes_eq x) core_names ≡ false)
-  name_sound j x e =
+  name_plain j x e =
       let m = mapped (λ (y : Module). y.source.name) there j x e in
-      let s = there_sound j m.0 m.1 in (
-        subst IsUtf8 m.2 s.name,
-        subst (λ xs. list_any (bytes_eq x) xs ≡ false) b.core_is
-            (subst (λ y. list_any (bytes_eq y) b.setting.core ≡ false) m.2 s.not_core),
-      )
+      let s = there_plain j m.0 m.1 in
+      (subst IsUtf8 m.2 s.name, subst (λ y. list_any (bytes_eq y) core_names ≡ false) m.2 s.not_core)
 
   there_apart : (i j : ℕ) (x : List ℕ) → slice_get (names_of there) i ≡ Some x → slice_get (names_of there) j ≡ Some x
       → i ≡ j
@@ -168,7 +159,7 @@ module _ (core ms : List Module) (order : List ℕ) (b : AreOfBuild core ms orde
       let r = given_got ms order i m.0 (order_within core ms order b) m.1 in
       let s = given_got ms order j n.0 (order_within core ms order b) n.1 in
       let same : r.0 ≡ s.0 =
-      ascending_apart (names_of ms) r.0 s.0 x b.are_modules.numbered.ascend
+      ascending_apart (names_of ms) r.0 s.0 x b.numbered.ascend
       (image (λ (y : Module). y.source.name) ms r.0 m.0 r.2 ∙ ap Some m.2)
       (image (λ (y : Module). y.source.name) ms s.0 n.0 s.2 ∙ ap Some n.2) in
       order_apart b.is_order i j s.0 (r.1 ∙ ap Some same) s.1
@@ -180,19 +171,19 @@ module _ (core ms : List Module) (order : List ℕ) (b : AreOfBuild core ms orde
   names_apart i j x e f =
       got_cases core_names (names_of there) i x (i ≡ j) e
       (λ p. got_cases core_names (names_of there) j x (i ≡ j) f (λ q. new_apart core_names i j x core_new p q)
-      (λ l here q. absurd (false≢true (sym (name_sound l x q).1 ∙ stands core_names i x p))))
+      (λ l here q. absurd (false≢true (sym (name_plain l x q).1 ∙ stands core_names i x p))))
       (λ k at p. got_cases core_names (names_of there) j x (i ≡ j) f
-      (λ q. absurd (false≢true (sym (name_sound k x p).1 ∙ stands core_names j x q)))
+      (λ q. absurd (false≢true (sym (name_plain k x p).1 ∙ stands core_names j x q)))
       (λ l here q. at ∙ ap (λ n. length core_names + n) (there_apart k l x p q) ∙ sym here))
 
   name_text : (i : ℕ) (x : List ℕ) → slice_get all_names i ≡ Some x → IsUtf8 x
   name_text i x e =
       got_cases core_names (names_of there) i x (IsUtf8 x) e (λ p. all_at core_names i x core_texts p)
-      (λ k at p. (name_sound k x p).0)
+      (λ k at p. (name_plain k x p).0)
 
   part_named : (i : ℕ) (p : Part) → slice_get parts i ≡ Some p → slice_get all_names i ≡ Some (name_of p)
   part_named i p e =
-      subst (λ xs. slice_get xs i ≡ Some (name_of p)) names
+      subst (λ xs. slice_get xs i ≡ Some (name_of p)) (names core ms order b)
       (slice_get-map name_of parts i ∙ ap (option_map name_of) e)
 
   pub apart : HomesApart parts
@@ -213,4 +204,7 @@ module _ (core ms : List Module) (order : List ℕ) (b : AreOfBuild core ms orde
       (subst Fits (sym (ap (λ (s : Source). s.text) c.2.source)) (within_fits c.0.1)))
       (λ j here h.
       let m = mapped project_part there j p h in
-      subst (λ (x : Part). Fits x.module_.source.text) m.2 (there_sound j m.0 m.1).text)
+      subst (λ (x : Part). Fits x.module_.source.text) m.2 (there_plain j m.0 m.1).text)
+
+  pub build : IsBuild parts
+  build = record { ordered = ordered core ms order b; apart = apart; fit = fitting }

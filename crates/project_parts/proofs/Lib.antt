@@ -10,6 +10,8 @@ pub mod Lower
 pub mod Texts
 -- modules that an entry reaches
 pub mod Reached
+-- names with numbers
+pub mod Numbered
 -- rows of numbers
 pub mod Rows
 -- names that differ

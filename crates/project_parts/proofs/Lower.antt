@@ -1,29 +1,27 @@
 -- Imports of lower numbers.
-use Rattle.std.proofs.Common.{◌≡◌, ℕ, zero, suc, ◌+◌, ◌-◌, ◌<◌, ◌≤◌, List, [], ◌∷◌, ◌++◌, length, map, take, get_or}
-use Rattle.std.proofs.Common.{Option, Some, None, Bool, true, false, ⊎_elim, refl, sym, ap, subst, ◌∙◌, arith}
+use Rattle.std.proofs.Common.{◌≡◌, ℕ, zero, suc, ◌+◌, ◌<◌, ◌≤◌, List, [], ◌∷◌, ◌++◌, length, map, take}
+use Rattle.std.proofs.Common.{Option, Some, None, Bool, true, false, refl, sym, ap, subst, ◌∙◌, arith}
 use Rattle.std.specs.Prelude.{slice_get, option_map, unwrap_or, flat_map, if◌then◌else◌}
 use Rattle.std.specs.List.{AllByRecursion, Contains, filter_map, position, list_any}
 use Rattle.std.specs.Str.{bytes_eq, is_utf8}
-use Rattle.std.proofs.lemmas.Bool.{cases_lt}
 use Rattle.std.proofs.lemmas.List.{length-map}
 use Rattle.std.proofs.lemmas.List.Elements.{All-contains}
-use Rattle.std.proofs.lemmas.Option.{slice_get-map, slice_get_within}
+use Rattle.std.proofs.lemmas.Option.{slice_get_within}
 use Rattle.core_modules.specs.Library.{core_library}
 use Rattle.decl_groups.specs.Groups.{list_at, Uses}
-use Rattle.decl_groups.proofs.Basics.{first_member, later_member, member_map}
+use Rattle.decl_groups.proofs.Basics.{first_member, later_member, map_member}
 use Rattle.module_files.specs.Places as place
 use Rattle.module_files.specs.Places.{Place}
-use Rattle.module_graph.specs.Graph.{names_of, used, uses_of, number_of as module_number}
-use Rattle.module_heads.specs.Heads.{HasImports}
-use Rattle.module_walk.specs.Modules as walk
+use Rattle.module_graph.specs.Graph.{names_of, used, uses_of}
 use Rattle.module_walk.specs.Modules.{Setting, Word, Import, Module, located, located_by, place_in, kind_of, is_core}
-use Rattle.module_walk.specs.Modules.{imports_found, IsWhole}
+use Rattle.module_walk.specs.Modules.{imports_found}
+use Rattle.module_walk.specs.Plain.{IsPlain, IsPlainImport}
 use Rattle.module_walk.specs.declared.found.Found.{Found}
 use Rattle.module_walk.specs.declared.found.Found.TheVariants as found
-use Rattle.project_build.specs.Modules.{Part, IsCoreModule, AreCoreModules, names_in, core_names, core_setting}
+use Rattle.project_build.specs.Modules.{Part, names_in, core_names, core_setting}
 use Rattle.project_build.specs.Modules.{core_part, project_part, parts_of, default_names, one_name, imported_names}
 use Rattle.project_build.specs.Modules.{number_of, name_of, graph_of}
-use Rattle.project_parts.specs.Laws.{AreOfBuild}
+use Rattle.project_parts.specs.Laws.{AreToBuild}
 use Rattle.project_parts.proofs.Naming.{core_names_are, core_at, part_names}
 use Rattle.project_parts.proofs.Ordering.{ready_at}
 use Rattle.project_parts.proofs.Placing.{first_place, at_place, has_place, among, row_at, numbers_below, all_joined}
@@ -43,7 +41,7 @@ low_by_place ps xs i k x e at l n is =
 
 -- ---- which imports have a number
 
-core_kind : (b : Bool) (p : Place) → kind_of (located_by b p) ≡ found.Core → b ≡ true
+pub core_kind : (b : Bool) (p : Place) → kind_of (located_by b p) ≡ found.Core → b ≡ true
 core_kind false place.Nowhere e = absurd cc
 core_kind false (place.At path text) e = absurd cc
 core_kind false place.Several e = absurd cc
@@ -55,10 +53,10 @@ file_kind true place.Nowhere e = absurd cc
 file_kind true (place.At path text) e = absurd cc
 file_kind true place.Several e = absurd cc
 
--- what holds of each word that the core library or a file alone has holds of the names with a number
-module _ (s : Setting) (P : List ℕ → Type 0) where
-  abbrev pub HoldsOf : Found → List Word → Type 0
-  HoldsOf kind words = (w : Word) → Contains words w → kind_of (located s w.text) ≡ kind → P w.text
+-- what holds of each import that the core library or a file alone has holds of the names with a number
+module _ (P : List ℕ → Type 0) where
+  abbrev pub HoldsOf : Found → List Import → Type 0
+  HoldsOf kind imports = (i : Import) → Contains imports i → i.found ≡ kind → P i.word.text
 
   one_named : (w : Word) (rest : List (List ℕ)) (kind : Found) → (kind ≡ found.Core → P w.text)
       → (kind ≡ found.File → P w.text) → AllByRecursion P rest
@@ -68,13 +66,13 @@ module _ (s : Setting) (P : List ℕ → Type 0) where
   one_named w rest found.File f g r = (g refl, r)
   one_named w rest found.Several f g r = r
 
-  pub all_named : (words : List Word) → HoldsOf found.Core words → HoldsOf found.File words
-      → AllByRecursion P (flat_map one_name (imports_found s words))
+  pub all_named : (imports : List Import) → HoldsOf found.Core imports → HoldsOf found.File imports
+      → AllByRecursion P (flat_map one_name imports)
   all_named [] f g = tt
-  all_named (w ∷ words) f g =
-      one_named w (flat_map one_name (imports_found s words)) (kind_of (located s w.text)) (f w (first_member w words))
-      (g w (first_member w words))
-      (all_named words (λ x c. f x (later_member w x words c)) (λ x c. g x (later_member w x words c)))
+  all_named (i ∷ imports) f g =
+      one_named i.word (flat_map one_name imports) i.found (f i (first_member i imports))
+      (g i (first_member i imports))
+      (all_named imports (λ x c. f x (later_member i x imports c)) (λ x c. g x (later_member i x imports c)))
 
 -- ---- modules of the core library
 
@@ -101,20 +99,33 @@ named_front [] (suc n) = refl
 named_front (c ∷ cs) zero = refl
 named_front (c ∷ cs) (suc n) = ap (λ xs. c.0 ∷ xs) (named_front cs n)
 
+abbrev import_of : Setting → Word → Import
+import_of s w = record { word = w; found = kind_of (located s w.text) }
+
 module _ (ps : List Part) (before rest : List (List ℕ)) (names : map name_of ps ≡ before ++ rest) where
   core_low : (library : List (List ℕ × List ℕ)) (i : ℕ) (words : List Word) → names_in library ≡ before
       → AllByRecursion (IsLow ps i) (flat_map one_name (imports_found (core_setting (take i library)) words))
   core_low library i words is =
-      all_named (core_setting (take i library)) (IsLow ps i) words
-      (λ w c e.
-      let s = core_setting (take i library) in
-      let k = core_kind (is_core s w.text) (place_in s w.text) e in
-      let a = among (names_in (take i library)) w.text k in
-      let b = got_front (names_in library) i a.0 w.text
-      (subst (λ xs. slice_get xs a.0 ≡ Some w.text) (named_front library i) a.1) in
-      low_by_place ps (before ++ rest) i a.0 w.text names
-      (got_first before rest a.0 w.text (subst (λ xs. slice_get xs a.0 ≡ Some w.text) is b.1)) b.0)
-      (λ w c e. absurd (no_file (take i library) w.text e))
+      all_named (IsLow ps i) (imports_found s words)
+      (λ x c e.
+      let w = word_of x c in
+      let k = core_kind (is_core s w.0.text) (place_in s w.0.text) (ap (λ (y : Import). y.found) w.2 ∙ e) in
+      let a = among (names_in (take i library)) w.0.text k in
+      let b = got_front (names_in library) i a.0 w.0.text
+      (subst (λ xs. slice_get xs a.0 ≡ Some w.0.text) (named_front library i) a.1) in
+      subst (λ (y : Import). IsLow ps i y.word.text) w.2
+      (low_by_place ps (before ++ rest) i a.0 w.0.text names
+      (got_first before rest a.0 w.0.text (subst (λ xs. slice_get xs a.0 ≡ Some w.0.text) is b.1)) b.0))
+      (λ x c e.
+      let w = word_of x c in
+      absurd (no_file (take i library) w.0.text (ap (λ (y : Import). y.found) w.2 ∙ e)))
+    where
+      s : Setting
+      s = core_setting (take i library)
+
+      word_of : (x : Import) → Contains (imports_found s words) x
+          → (w : Word) × Contains words w × (import_of s w ≡ x)
+      word_of x c = map_member (import_of s) words x c
 
 -- ---- modules of the project
 
@@ -126,14 +137,14 @@ all_low : (P Q : List ℕ → Type 0) → ((x : List ℕ) → P x → Q x) → (
 all_low P Q f [] a = tt
 all_low P Q f (x ∷ xs) a = (f x a.0, all_low P Q f xs a.1)
 
-module _ (core ms : List Module) (order : List ℕ) (b : AreOfBuild core ms order) where
+module _ (core ms : List Module) (order : List ℕ) (b : AreToBuild core ms order) where
   abbrev parts : List Part
   parts = parts_of core ms order
 
   abbrev there : List Module
   there = filter_map (slice_get ms) order
 
-  names : map name_of parts ≡ core_names ++ names_of there
+  pub names : map name_of parts ≡ core_names ++ names_of there
   names =
       part_names core ms order ∙ ap (λ xs. xs ++ names_of there) (core_names_are [] core_library core b.are_core)
 
@@ -155,14 +166,16 @@ module _ (core ms : List Module) (order : List ℕ) (b : AreOfBuild core ms orde
       (omega (arith, l, slice_get_within core_names a.0 x a.1))
 
   -- the name of a module of the project that the module at place j of the order imports
-  low_file : (j : ℕ) (m : Module) (words : List Word) (w : Word) → slice_get there j ≡ Some m
-      → m.imports ≡ imports_found b.setting words → Contains words w
-      → kind_of (located b.setting w.text) ≡ found.File → IsLow parts (length core_names + j) w.text
-  low_file j m words w at is c kind n number =
+  low_file : (j : ℕ) (m : Module) (i : Import) → slice_get there j ≡ Some m → Contains m.imports i
+      → i.found ≡ found.File → IsLow parts (length core_names + j) i.word.text
+  low_file j m i at c kind n number =
       got_cases core_names (names_of there) n w.text (n < length core_names + j) stands
       (λ e. omega (arith, slice_get_within core_names n w.text e))
       (λ k here e. of_project k e)
     where
+      w : Word
+      w = i.word
+
       stands : slice_get (core_names ++ names_of there) n ≡ Some w.text
       stands =
           at_place (core_names ++ names_of there) w.text n
@@ -181,11 +194,8 @@ module _ (core ms : List Module) (order : List ℕ) (b : AreOfBuild core ms orde
           ∙ ap Some q.2) in
           let own = given_got ms order j m order_within at in
           let uses : Uses (uses_of ms) own.0 r.0 = subst (λ xs. Contains xs r.0) (sym (row own.0 own.2))
-          (subst (λ xs. Contains (filter_map (used ms) xs) r.0) (sym is)
-          (member_given (used ms) (imports_found b.setting words)
-          (record { word = w; found = kind_of (located b.setting w.text) }) r.0
-          (member_map (λ (x : Word). record { word = x; found = kind_of (located b.setting x.text) }) words w c)
-          (subst (λ f. used ms (record { word = w; found = f }) ≡ Some r.0) (sym kind) r.1))) in
+          (member_given (used ms) m.imports i r.0 c
+          (subst (λ f. used ms (record { word = w; found = f }) ≡ Some r.0) (sym kind) r.1)) in
           let placed = there_is (take j order) r.0 ((ready_at b.is_order j own.0 own.1).imports r.0 uses) in
           let front = got_front order j placed.0 r.0 placed.1 in
           let other = item_at ms r.0 (order_within placed.0 r.0 front.1) in
@@ -205,18 +215,16 @@ module _ (core ms : List Module) (order : List ℕ) (b : AreOfBuild core ms orde
       all_joined (IsLow parts (length core_names + j)) default_names (flat_map one_name m.imports)
       (all_low (λ x. list_any (bytes_eq x) core_names ≡ true) (IsLow parts (length core_names + j))
       (λ x e. low_core (length core_names + j) x (omega arith) e) default_names default_are_core)
-      (subst (λ is. AllByRecursion (IsLow parts (length core_names + j)) (flat_map one_name is)) (sym whole.2)
-      (all_named b.setting (IsLow parts (length core_names + j)) whole.0
-      (λ w c e. low_core (length core_names + j) w.text (omega arith)
-      (subst (λ xs. list_any (bytes_eq w.text) xs ≡ true) b.core_is
-      (core_kind (is_core b.setting w.text) (place_in b.setting w.text) e)))
-      (λ w c e. low_file j m whole.0 w at whole.2 c e)))
+      (all_named (IsLow parts (length core_names + j)) m.imports
+      (λ i c e. low_core (length core_names + j) i.word.text (omega arith)
+      (All-contains (IsPlainImport core_names) m.imports i plain.imports c e))
+      (λ i c e. low_file j m i at c e))
     where
       own : (n : ℕ) × (slice_get order j ≡ Some n) × (slice_get ms n ≡ Some m)
       own = given_got ms order j m order_within at
 
-      whole : IsWhole HasImports b.setting m
-      whole = All-contains (IsWhole HasImports b.setting) ms m b.are_modules.imports (got_member ms own.0 m own.2)
+      plain : IsPlain core_names m
+      plain = All-contains (IsPlain core_names) ms m b.plain (got_member ms own.0 m own.2)
 
   pub part_low : (i : ℕ) (p : Part) → slice_get parts i ≡ Some p → AllByRecursion (IsLow parts i) (imported_names p)
   part_low i p at =

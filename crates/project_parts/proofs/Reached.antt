@@ -1,19 +1,26 @@
 -- Modules that an entry reaches: their names and their texts.
-use Rattle.std.proofs.Common.{◌≡◌, ℕ, ◌≤◌, List, [], ◌∷◌, length, Option, Some, None, Bool, true, false, refl, sym}
-use Rattle.std.proofs.Common.{ap, subst, ◌∙◌, arith}
+use Rattle.std.proofs.Common.{◌≡◌, ℕ, List, [], ◌∷◌, length, Option, Some, None, Bool, true, false, refl, sym}
+use Rattle.std.proofs.Common.{get_or}
+use Rattle.std.proofs.Common.{subst, arith}
 use Rattle.std.specs.Prelude.{option_and_then, nat_le, if◌then◌else◌}
-use Rattle.std.specs.Str.{IsUtf8, is_utf8}
+use Rattle.std.specs.List.{All, Contains, list_any}
+use Rattle.std.specs.Str.{bytes_eq, IsUtf8, is_utf8}
 use Rattle.std.proofs.lemmas.Bool.Decides.{nat_tests}
+use Rattle.std.proofs.lemmas.List.Elements.{All-contains, All-contains_itself, All-map, All-weaker}
 use Rattle.std.proofs.lemmas.Str.{IsUtf8-from_is_utf8}
+use Rattle.decl_groups.proofs.Basics.{member_map}
 use Rattle.module_files.specs.Places as place
 use Rattle.module_files.specs.Places.{Place, place_of, place_at, existing, paths_of, text_at, text_within}
 use Rattle.module_heads.specs.Heads.{HasImports}
 use Rattle.module_walk.specs.Entry.{IsEntry}
 use Rattle.module_walk.specs.Modules as walk
-use Rattle.module_walk.specs.Modules.{Setting, Source, IsReached, itself, imported, Located, located, located_by}
+use Rattle.module_walk.specs.Modules.{Setting, Source, IsReached, itself, imported, located, located_by}
 use Rattle.module_walk.specs.Modules.{place_in}
-use Rattle.module_walk.specs.Modules.{is_core}
-use Rattle.project_parts.specs.Laws.{Fits}
+use Rattle.module_walk.specs.Modules.{is_core, kind_of, Word, Module, IsWhole}
+use Rattle.module_walk.specs.Plain.{IsPlain, IsPlainImport}
+use Rattle.project_build.specs.Modules.{core_names}
+use Rattle.project_parts.specs.Laws.{Fits, AreOfBuild, AreToBuild}
+use Rattle.project_parts.proofs.Lower.{core_kind}
 use Rattle.project_parts.proofs.Texts.{entry_text}
 
 pub within_fits : (bytes : List ℕ) → Fits (text_within bytes)
@@ -74,3 +81,39 @@ reached_sound s written entry m u is (imported {m = by} words word {path} {text}
     let f = in_file (is_core s word.text) (place_in s word.text) path text e in
     let t = file_is s word.text path text f.1 in
     record { name = t.0; not_core = f.0; text = t.1 }
+
+-- ---- by the files
+
+module _ (core ms : List Module) (order : List ℕ) (b : AreOfBuild core ms order) where
+  import_plain : (w : Word)
+      → IsPlainImport core_names (record { word = w; found = kind_of (located b.setting w.text) })
+  import_plain w e =
+      subst (λ xs. list_any (bytes_eq w.text) xs ≡ true) b.core_is
+      (core_kind (is_core b.setting w.text) (place_in b.setting w.text) e)
+
+  module_plain : (m : Module) → Contains ms m → IsPlain core_names m
+  module_plain m c = record {
+    name = sound.name;
+    not_core = subst (λ xs. list_any (bytes_eq m.source.name) xs ≡ false) b.core_is sound.not_core;
+    text = sound.text;
+    imports = subst (All (IsPlainImport core_names)) (sym whole.2)
+        (All-map (IsPlainImport core_names) (λ w. record { word = w; found = kind_of (located b.setting w.text) })
+        whole.0 (λ k d l. import_plain (get_or whole.0 k d)));
+  }
+    where
+      sound : IsSound b.setting m.source
+      sound =
+          reached_sound b.setting b.written b.are_modules.entry m.source b.is_text b.are_modules.is_entry
+          ((b.are_modules.members m.source).0 (member_map (λ (x : Module). x.source) ms m c))
+
+      whole : IsWhole HasImports b.setting m
+      whole = All-contains (IsWhole HasImports b.setting) ms m b.are_modules.imports c
+
+  -- the modules that an entry reaches are those of a build
+  pub to_build : AreToBuild core ms order
+  to_build = record {
+    are_core = b.are_core;
+    plain = All-weaker (Contains ms) (IsPlain core_names) module_plain ms (All-contains_itself ms);
+    numbered = b.are_modules.numbered;
+    is_order = b.is_order;
+  }

@@ -1,8 +1,7 @@
 -- Texts in UTF-8 by their units, and paths in parts.
-use Rattle.std.proofs.Common.{◌≡◌, ℕ, zero, suc, ◌+◌, ◌-◌, ◌/◌, ◌%◌, ◌<◌, ◌≤◌, List, [], ◌∷◌, ◌++◌, length, take, drop}
-use Rattle.std.proofs.Common.{get_or, Bool, true, false, nat_lt, ◌&&◌, ◌==◌, Some, refl, sym, ap, subst, ◌∙◌, arith}
-use Rattle.std.proofs.Common.{codes}
-use Rattle.std.proofs.Common.{append_assoc, if◌then◌else◌, rules}
+use Rattle.std.proofs.Common.{◌≡◌, ℕ, ◌+◌, ◌-◌, ◌/◌, ◌%◌, ◌<◌, ◌≤◌, List, [], ◌∷◌, ◌++◌}
+use Rattle.std.proofs.Common.{Bool, true, false, nat_lt, ◌&&◌, ◌==◌, refl, sym, ap, subst, ◌∙◌, arith}
+use Rattle.std.proofs.Common.{if◌then◌else◌, rules}
 use Rattle.std.specs.Prelude.{encode_utf8_all}
 use Rattle.std.specs.Char.Escape.{encode_utf16}
 use Rattle.std.specs.List.{AllByRecursion, filter, slice_split, join_with_byte}
@@ -11,15 +10,12 @@ use Rattle.std.specs.Str.Lossy.{utf8_lossy}
 use Rattle.std.proofs.Math.Utf8.{scalar, scalars}
 use Rattle.std.proofs.lemmas.Bool.Decides.{nat_tests}
 use Rattle.std.proofs.lemmas.List.Splits.{join_with_byte-slice_split}
-use Rattle.std.proofs.lemmas.Str.{chars-encodes, encodes-append, encodes_same, encodes-chars, scalars-chars}
-use Rattle.std.proofs.lemmas.Str.{utf8_lossy-IsUtf8}
-use Rattle.std.proofs.lemmas.Str.{IsUtf8-append, IsUtf8-nil, IsUtf8-take, IsUtf8-drop, IsUtf8-from_ascii}
-use Rattle.std.proofs.lemmas.Str.{IsCharBoundary-before_ascii, IsCharBoundary-after_ascii}
-use Rattle.elm_base.specs.Path.{NamesModule, IsPathOf, dotted}
+use Rattle.std.proofs.lemmas.Str.{encodes-chars, scalars-chars, utf8_lossy-IsUtf8}
+use Rattle.std.proofs.lemmas.Str.{IsUtf8-append, IsUtf8-nil, IsUtf8-from_ascii}
 use Rattle.elm_base.specs.Units.{units_of_chars, text_units}
-use Rattle.module_files.specs.Entries.{NamesBelow, NamesEntry, here, later}
-use Rattle.project_file.specs.Paths.{is_kept, normal_path, below}
-use Rattle.project_file.proofs.Below.{front-after}
+use Rattle.module_files.specs.Entries.{NamesEntry}
+use Rattle.module_files.proofs.Texts.{slash_parts, entry_is_text}
+use Rattle.project_file.specs.Paths.{is_kept, normal_path}
 
 -- ---- units
 
@@ -33,9 +29,6 @@ high_low c s = let l : c < 1114112 = grind (arith, nat_tests) in omega arith
 and_true : (a b : Bool) → (a && b) ≡ true → (a ≡ true) × (b ≡ true)
 and_true true b e = (refl, e)
 and_true false b e = absurd cc
-
-both_true : (a b : Bool) → a ≡ true → b ≡ true → (a && b) ≡ true
-both_true a b p q = rw (p, q) refl
 
 joins_back : (c d : ℕ) → 65536 ≤ c → 65536 ≤ d → 55296 + (c - 65536) / 1024 ≡ 55296 + (d - 65536) / 1024
     → 56320 + (c - 65536) % 1024 ≡ 56320 + (d - 65536) % 1024 → c ≡ d
@@ -91,37 +84,6 @@ same_texts x y u v e =
 
 -- ---- paths
 
-slash_there : (xs ys : List ℕ) → get_or (xs ++ 47 ∷ ys) (length xs) 0 ≡ 47
-slash_there [] ys = refl
-slash_there (x ∷ xs) ys = slash_there xs ys
-
-slash_within : (xs ys : List ℕ) → length xs < length (xs ++ 47 ∷ ys)
-slash_within [] ys = omega arith
-slash_within (x ∷ xs) ys = let h = slash_within xs ys in omega (arith, h)
-
-before_slash : (xs ys : List ℕ) → take (length xs) (xs ++ 47 ∷ ys) ≡ xs
-before_slash [] ys = refl
-before_slash (x ∷ xs) ys = ap (λ zs. x ∷ zs) (before_slash xs ys)
-
-after_slash : (xs ys : List ℕ) (n : ℕ) → n ≡ length xs + 1 → drop n (xs ++ 47 ∷ ys) ≡ ys
-after_slash [] ys zero e = absurd (omega (arith, e))
-after_slash [] ys (suc n) e = let h : n ≡ 0 = omega (arith, e) in ap (λ k. drop k ys) h
-after_slash (x ∷ xs) ys zero e = absurd (omega (arith, e))
-after_slash (x ∷ xs) ys (suc n) e = after_slash xs ys n (omega (arith, e))
-
-pub slash_parts : (xs ys : List ℕ) → IsUtf8 (xs ++ 47 ∷ ys) → IsUtf8 xs × IsUtf8 ys
-slash_parts xs ys u =
-    let there = slash_there xs ys in
-    let low : get_or (xs ++ 47 ∷ ys) (length xs) 0 < 128 = omega (arith, there) in
-    let within = slash_within xs ys in (
-      subst IsUtf8 (before_slash xs ys)
-          (IsUtf8-take (xs ++ 47 ∷ ys) (length xs) u (IsCharBoundary-before_ascii (xs ++ 47 ∷ ys)
-          (length xs) within low)),
-      subst IsUtf8 (after_slash xs ys (length xs + 1) refl)
-          (IsUtf8-drop (xs ++ 47 ∷ ys) (length xs + 1) u
-          (IsCharBoundary-after_ascii (xs ++ 47 ∷ ys) (length xs) u within low)),
-    )
-
 parts_are : (xs : List (List ℕ)) → IsUtf8 (join_with_byte 47 xs) → AllByRecursion IsUtf8 xs
 parts_are [] u = tt
 parts_are (x ∷ []) u = (u, tt)
@@ -153,62 +115,7 @@ normal_is path u =
     parts_join (filter is_kept parts)
     (kept_are parts (parts_are parts (subst IsUtf8 (sym (join_with_byte-slice_split 47 path)) u)))
 
-below_is : (directory path rest : List ℕ) → IsUtf8 path → below directory path ≡ Some rest → IsUtf8 rest
-below_is [] path rest u e = let h : path ≡ rest = cc in subst IsUtf8 h u
-below_is (c ∷ cs) path rest u e =
-    let whole : path ≡ (c ∷ cs) ++ 47 ∷ rest =
-    front-after ((c ∷ cs) ++ 47 ∷ []) path rest e ∙ append_assoc (c ∷ cs) (47 ∷ []) rest in
-    (slash_parts (c ∷ cs) rest (subst IsUtf8 whole u)).1
-
--- ---- names by paths
-
-scalars_first : (xs ys : List ℕ) → scalars (xs ++ ys) ≡ true → scalars xs ≡ true
-scalars_first [] ys s = refl
-scalars_first (x ∷ xs) ys s =
-    let w = and_true (scalar x) (scalars (xs ++ ys)) s in both_true (scalar x) (scalars xs) w.0
-    (scalars_first xs ys w.1)
-
-scalars_second : (xs ys : List ℕ) → scalars (xs ++ ys) ≡ true → scalars ys ≡ true
-scalars_second [] ys s = s
-scalars_second (x ∷ xs) ys s = scalars_second xs ys (and_true (scalar x) (scalars (xs ++ ys)) s).1
-
-scalars_joined : (xs ys : List ℕ) → scalars xs ≡ true → scalars ys ≡ true → scalars (xs ++ ys) ≡ true
-scalars_joined [] ys p q = q
-scalars_joined (x ∷ xs) ys p q =
-    let w = and_true (scalar x) (scalars xs) p in
-    both_true (scalar x) (scalars (xs ++ ys)) w.0 (scalars_joined xs ys w.1 q)
-
--- with points in place of slashes
-pointed : (xs : List (List ℕ)) → scalars (join_with_byte 47 xs) ≡ true → scalars (join_with_byte 46 xs) ≡ true
-pointed [] s = refl
-pointed (x ∷ []) s = s
-pointed (x ∷ y ∷ ys) s =
-    let more = scalars_second x (47 ∷ join_with_byte 47 (y ∷ ys)) s in
-    let rest = pointed (y ∷ ys) (and_true (scalar 47) (scalars (join_with_byte 47 (y ∷ ys))) more).1 in
-    scalars_joined x (46 ∷ join_with_byte 46 (y ∷ ys)) (scalars_first x (47 ∷ join_with_byte 47 (y ∷ ys)) s) rest
-
-elm_ending : encode_utf8_all (codes ".elm") ≡ codes ".elm"
-unfolding lib.Utf8.encode
-elm_ending = refl
-
-module_name : (path name : List ℕ) → IsUtf8 path → NamesModule path name → IsUtf8 name
-module_name path name (cs, (s, f)) (names, is, e) =
-    let whole : encode_utf8_all (join_with_byte 47 names ++ codes ".elm") ≡ path =
-    encodes-append (join_with_byte 47 names) (codes ".elm")
-    ∙ (ap (λ z. encode_utf8_all (join_with_byte 47 names) ++ z) elm_ending ∙ sym is.spelled) in
-    let same = encodes_same cs (join_with_byte 47 names ++ codes ".elm") (f ∙ sym whole) in
-    let all = subst (λ z. scalars z ≡ true) same s in
-    let points = pointed names (scalars_first (join_with_byte 47 names) (codes ".elm") all) in
-    (join_with_byte 46 names, (points, sym e))
-
-entry_name : (path : List ℕ) (directories : List (List ℕ)) (name : List ℕ) → IsUtf8 path
-    → NamesEntry path directories name
-    → IsUtf8 name
-entry_name path [] name u x = elim x [ ]
-entry_name path (d ∷ ds) name u (here (rest, e, is)) = module_name rest name (below_is d path rest u e) is
-entry_name path (d ∷ ds) name u (later none more) = entry_name path ds name u more
-
 -- the name of the module of an entry
 pub entry_text : (written : List ℕ) (directories : List (List ℕ)) (name : List ℕ) → IsUtf8 written
     → NamesEntry (normal_path written) directories name → IsUtf8 name
-entry_text written directories name u is = entry_name (normal_path written) directories name (normal_is written u) is
+entry_text written directories name u is = entry_is_text (normal_path written) directories name (normal_is written u) is

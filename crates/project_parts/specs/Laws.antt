@@ -1,13 +1,15 @@
 -- What holds of the modules of each build.
-use Rattle.std.specs.Prelude.{◌≡◌, ℕ, List, [], slice_get, Option, Some, length, ◌≤◌, IfSome}
+use Rattle.std.specs.Prelude.{◌≡◌, ℕ, List, [], slice_get, Option, Some, length, ◌<◌, ◌≤◌, IfSome}
+use Rattle.std.specs.List.{All, Contains}
 use Rattle.std.specs.Str.{IsUtf8}
 use Rattle.core_modules.specs.Library.{core_library}
 use Rattle.import_graph.specs.Order.{IsOrder}
 use Rattle.module_fold.specs.Fold.{IsOrdered}
-use Rattle.module_graph.specs.Graph.{AreModules, uses_of}
+use Rattle.module_graph.specs.Graph.{AreModules, AreNumbered, names_of, uses_of}
 use Rattle.module_heads.specs.Heads.{HasImports}
 use Rattle.module_walk.specs.Modules.{Setting, Module}
-use Rattle.project_build.specs.Modules.{Part, AreCoreModules, core_names, parts_of, graph_of, home_of}
+use Rattle.module_walk.specs.Plain.{IsPlain}
+use Rattle.project_build.specs.Modules.{Part, AreCoreModules, core_names, parts_of, graph_of, home_of, number_of}
 
 -- the modules of a project with their order, and the core library
 pub record AreOfBuild (core ms : List Module) (order : List ℕ) : Type 0 where
@@ -50,3 +52,27 @@ pub record IsBuild (ps : List Part) : Type 0 where
 
 abbrev pub Builds : Type 0
 Builds = (core ms : List Module) (order : List ℕ) → AreOfBuild core ms order → IsBuild (parts_of core ms order)
+
+-- ---- whatever the files hold
+
+-- modules of a project with their order, and the core library
+pub record AreToBuild (core ms : List Module) (order : List ℕ) : Type 0 where
+  pub are_core : AreCoreModules [] core_library core
+  pub plain : All (IsPlain core_names) ms
+  pub numbered : AreNumbered ms
+  pub is_order : IsOrder (uses_of ms) [] order
+
+abbrev pub AlwaysBuilds : Type 0
+AlwaysBuilds = (core ms : List Module) (order : List ℕ) → AreToBuild core ms order → IsBuild (parts_of core ms order)
+
+-- the name has a number
+pub record HasNumber (ps : List Part) (name : List ℕ) : Type 0 where
+  pub number : ℕ
+  pub is : number_of ps name ≡ Some number
+  pub within : number < length ps
+
+-- each name of a module of the project has a number
+abbrev pub AllNumbered : Type 0
+AllNumbered =
+    (core ms : List Module) (order : List ℕ) (name : List ℕ) → AreToBuild core ms order → Contains (names_of ms) name
+    → HasNumber (parts_of core ms order) name

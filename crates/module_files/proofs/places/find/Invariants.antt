@@ -1,5 +1,6 @@
 use Rattle.std.proofs.Common.{◌≡◌}
 use Rattle.std.specs.Prelude.{IfSome}
+use Rattle.module_files.specs.Places.{Fits, text_view}
 use Rattle.module_files.proofs.Finding.{IsSoFar}
 use Rattle.module_files.proofs.places.find.Given as goal
 
@@ -7,6 +8,7 @@ use Rattle.module_files.proofs.places.find.Given as goal
 abbrev pub invariant-loop-directory : goal.invariant-loop-directory
 invariant-loop-directory g l = record {
   so_far : IfSome (g.F.Files.tree l.fn.files) (λ tree. IsSoFar tree l.directories l.name l.directory-index l.found);
+  fits : IfSome l.found (λ s. Fits (text_view s));
   tree : g.F.Files.tree l.files ≡ g.F.Files.tree l.fn.files;
   faults : g.F.Files.faults l.files ≡ g.F.Files.faults l.fn.files;
 }

@@ -6,11 +6,13 @@ use Rattle.std.proofs.lemmas.Result.{IfOk-weaker, IfErr-weaker}
 use Rattle.elm_base.specs.declared.fault.Fault.{Fault}
 use Rattle.import_graph.specs.Order.{IsRing}
 use Rattle.module_walk.specs.Modules.{Module}
+use Rattle.module_walk.specs.Plain.{IsPlain}
 use Rattle.module_walk.specs.View.{setting, module_view}
+use Rattle.project_file.specs.View.{directories_of}
 use Rattle.module_graph.specs.Faults.{IsRefused, no_entry, too_many, in_a_ring, ring_fault}
 use Rattle.module_graph.specs.Graph.{uses_of}
 use Rattle.module_graph.specs.View.{graph_modules, IsOf}
-use Rattle.module_graph.proofs.Ends.{are_modules, refused_for, ended}
+use Rattle.module_graph.proofs.Ends.{are_modules, all_given, entry_given, refused_for, ended}
 use Rattle.module_graph.proofs.crawling.crawl.Goals as goal
 
 pub returns-in-Ok-clause-modules : goal.returns-in-Ok-clause-modules
@@ -20,6 +22,20 @@ returns-in-Ok-clause-modules g c =
     IfOk-weaker c.graph_of.result _ _
     (λ graph is. IfSome_then (g.F.Files.tree c.args.files.now) c.in-Ok.ensures.reached
     (λ tree r. are_modules g.R.Reader.has_imports (setting tree c.args.project.now c.args.core.now.keys) given (graph_modules graph) is c.args.entry.now few r))
+    c.graph_of.ensures.modules
+
+pub returns-in-Ok-clause-plain : goal.returns-in-Ok-clause-plain
+returns-in-Ok-clause-plain g c =
+    IfOk-weaker c.graph_of.result _ _
+    (λ graph is. all_given (map module_view c.in-Ok.modules.items) (graph_modules graph) is
+    (IsPlain c.args.core.now.keys) c.in-Ok.ensures.plain)
+    c.graph_of.ensures.modules
+
+pub returns-in-Ok-clause-entry : goal.returns-in-Ok-clause-entry
+returns-in-Ok-clause-entry g c =
+    IfOk-weaker c.graph_of.result _ _
+    (λ graph is. entry_given (map module_view c.in-Ok.modules.items) (graph_modules graph) is
+    (directories_of c.args.project.now) c.args.entry.now c.in-Ok.ensures.entry)
     c.graph_of.ensures.modules
 
 pub returns-in-Ok-clause-error : goal.returns-in-Ok-clause-error

@@ -7,6 +7,7 @@ use Rattle.module_files.specs.Places.{place_view}
 use Rattle.project_file.specs.View.{directories_of}
 use Rattle.module_walk.proofs.Locating.{told_place, no_place}
 use Rattle.module_walk.proofs.Meeting.{anyhow}
+use Rattle.module_walk.proofs.Plain.{plain_place}
 use Rattle.module_walk.proofs.found.place.Goals as goal
 
 pub returns-in-Ok-clause-place : goal.returns-in-Ok-clause-place
@@ -19,3 +20,9 @@ pub returns-in-Err-clause-place : goal.returns-in-Err-clause-place
 returns-in-Err-clause-place g c =
     anyhow (g.F.Files.tree c.args.files.now) (λ tree.
     no_place c.args.name.now (directories_of c.args.project.now) tree (λ u. c.in-Err.ensures.cases.0 (subst IsUtf8 (sym c.as_bytes.ensures) u)))
+
+pub returns-in-Ok-clause-plain : goal.returns-in-Ok-clause-plain
+returns-in-Ok-clause-plain g c =
+    IfOk-weaker c.find.result _ _
+    (λ p f. plain_place c.args.name.now (place_view p) (subst IsUtf8 c.as_bytes.ensures c.in-Ok.ensures.cases.1) f)
+    c.find.ensures.fits

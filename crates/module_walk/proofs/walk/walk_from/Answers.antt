@@ -8,6 +8,7 @@ use Rattle.module_walk.specs.Modules.{Source, AreTooMany}
 use Rattle.module_walk.specs.View.{setting, source_view, module_view}
 use Rattle.module_walk.specs.Walk.{IsWalk, IsWalked}
 use Rattle.module_walk.proofs.Meeting.{both, anyhow}
+use Rattle.module_walk.proofs.Plain.{plain_begins, first_begins}
 use Rattle.module_walk.proofs.Reaching.{begins, are_reached}
 use Rattle.module_walk.proofs.Reasons.{reason_on}
 use Rattle.module_walk.proofs.walk.walk_from.Goals as goal
@@ -16,6 +17,9 @@ pub loop-index-init : goal.loop-index-init
 loop-index-init g c = record {
   walked = anyhow (g.F.Files.tree c.args.files.now) (λ t. begins g.R.Reader.has_imports (setting t c.args.project.now c.args.core.now.keys) c.in_ok-walk.walk c.args.first
       c.in_ok-walk.ensures.entry c.in_ok-walk.ensures.modules c.in_ok-walk.ensures.known);
+  plain = plain_begins c.args.core.now.keys c.in_ok-walk.walk c.args.first c.requires.plain c.in_ok-walk.ensures.modules
+      c.in_ok-walk.ensures.known;
+  first = first_begins c.in_ok-walk.walk c.args.first c.in_ok-walk.ensures.modules;
   few = omega (arith, c.in_ok-walk.walk.modules.ok, ap length c.in_ok-walk.ensures.modules);
   tree = refl;
   faults = refl;
@@ -32,6 +36,8 @@ loop-index-preserved g c =
       walked = both (g.F.Files.tree c.args.files.now) c.loop-index.invariant.walked
           (subst (λ o. IfSome o (λ t. (m : Source) → IsWalked H (s t) m now index → IsWalked H (s t) m next (index + 1))) c.loop-index.invariant.tree c.in_default.ensures.walked)
           (λ t w f. f (source_view c.args.first) w);
+      plain = c.in_default.ensures.plain c.loop-index.invariant.plain;
+      first = c.in_default.ensures.sources (source_view c.args.first) c.loop-index.invariant.first;
       few = c.in_default.ensures.few;
       tree = c.step.ensures.tree ∙ c.loop-index.invariant.tree;
       faults = c.in_default.ensures.no_fault ∙ c.loop-index.invariant.faults;

@@ -1,10 +1,6 @@
-use Rattle.project_parts.proofs.Differing.{apart, fitting}
-use Rattle.project_parts.proofs.Lower.{ordered}
+use Rattle.project_parts.proofs.Differing.{build}
+use Rattle.project_parts.proofs.Reached.{to_build}
 use Rattle.project_parts.proofs.laws.build_law.Goals as goal
 
 pub returns : goal.returns
-returns c core ms order b = record {
-  ordered = ordered core ms order b;
-  apart = apart core ms order b;
-  fit = fitting core ms order b;
-}
+returns c core ms order b = build core ms order (to_build core ms order b)

@@ -1,14 +1,17 @@
 -- The imports of one module are met, one after the other: `loop_walk`, `one_done`, `met_done`, `read_at`.
-use Rattle.std.proofs.Common.{◌≡◌, ◌∷◌, [], ◌++◌, sym, ap, ◌∙◌, subst, refl, arith}
+use Rattle.std.proofs.Common.{◌≡◌, ◌∷◌, [], ◌++◌, map, sym, ap, ◌∙◌, subst, refl, arith}
 use Rattle.std.specs.Prelude.{IfSome}
+use Rattle.std.specs.List.{All}
 use Rattle.std.proofs.lemmas.List.{length-map}
 use Rattle.std.proofs.lemmas.Option.{IfSome_then}
 use Rattle.elm_files.specs.Tree.{Tree}
 use Rattle.module_walk.specs.Modules.{Imports}
-use Rattle.module_walk.specs.View.{setting, source_view, module_view}
-use Rattle.module_walk.specs.Walk.{IsWalk, Meets, AreMet}
+use Rattle.module_walk.specs.Plain.{IsPlainImport}
+use Rattle.module_walk.specs.View.{setting, import_view, source_view, module_view}
+use Rattle.module_walk.specs.Walk.{IsWalk, IsPlainWalk, Meets, AreMet}
 use Rattle.module_walk.specs.declared.walk.Import.{Import}
 use Rattle.module_walk.proofs.Meeting.{both, words_left, words_done, Right, loop_walk, one_done, met_on, met_done, grows_on}
+use Rattle.module_walk.proofs.Plain.{plain_more}
 use Rattle.module_walk.proofs.Reaching.{are_many}
 use Rattle.module_walk.proofs.Stepping.{are_imported, read_at}
 use Rattle.module_walk.proofs.walk.Walk.imports_at.Goals as goal
@@ -36,6 +39,7 @@ returns-then-len-gt-MAX_MODULES-clause-error g c =
 pub loop-import-preserved : goal.loop-import-preserved
 loop-import-preserved g c =
     let H = g.R.Reader.has_imports in
+    let core = c.args.core.now.keys in
     let told = g.F.Files.tree c.args.files.now in
     let s = λ (t : Tree). setting t c.args.project.now c.args.core.now.keys in
     let now = c.loop-import.self in
@@ -54,6 +58,8 @@ loop-import-preserved g c =
       met = subst (λ is. AreMet next (words_done is)) (sym pushed) (met_done next done i c.in_ok-found.found (met_on c.in_ok-found.ensures.grows (words_done done) inv.met) c.in_ok-found.ensures.met);
       walk = both told inv.walk step (λ t h meets m w by. subst (λ is. IsWalk H (s t) m next × Right (s t) is) (sym pushed)
           (loop_walk H (s t) m now next done left rest c.in-Some.import all c.in_ok-found.found (h m w by) by inv.words c.in-Some.ensures.steps.0 meets c.in_ok-found.ensures.met));
+      plain = subst (λ is. IsPlainWalk core c.args.self.now → IsPlainWalk core next × All (IsPlainImport core) (map import_view is)) (sym pushed)
+          (plain_more core c.args.self.now now next done i inv.plain c.in_ok-found.ensures.plain c.in_ok-found.ensures.met);
       grows = grows_on inv.grows c.in_ok-found.ensures.grows;
       few = omega (arith, c.if-len-gt-MAX_MODULES.false, c.len-in-loop-import.ensures);
       tree = c.meet.ensures.tree ∙ inv.tree;

@@ -1,8 +1,10 @@
 use Rattle.std.specs.Prelude.{◌≡◌, ◌≤◌, ◌++◌, map, IfSome}
+use Rattle.std.specs.List.{All}
 use Rattle.std.specs.Vec.{vec_len}
 use Rattle.module_walk.specs.Modules.{Source, imports_found}
 use Rattle.module_walk.specs.View.{setting, import_view}
-use Rattle.module_walk.specs.Walk.{IsWalk, Grows, AreImported, AreMet}
+use Rattle.module_walk.specs.Plain.{IsPlainImport}
+use Rattle.module_walk.specs.Walk.{IsWalk, IsPlainWalk, Grows, AreImported, AreMet}
 use Rattle.module_walk.proofs.Meeting.{words_done, words_left}
 use Rattle.module_walk.proofs.walk.Walk.imports_at.Given as goal
 
@@ -15,6 +17,8 @@ invariant-loop-import g l = record {
       → AreImported g.R.Reader.has_imports (setting tree l.fn.project l.fn.core.keys) m (words_left l.initial.import-iterator.rest.items)
       → IsWalk g.R.Reader.has_imports (setting tree l.fn.project l.fn.core.keys) m l.self
       × (map import_view l.imports.items ≡ imports_found (setting tree l.fn.project l.fn.core.keys) (words_done l.imports.items)));
+  plain : IsPlainWalk l.fn.core.keys l.fn.self
+      → IsPlainWalk l.fn.core.keys l.self × All (IsPlainImport l.fn.core.keys) (map import_view l.imports.items);
   grows : Grows l.fn.self l.self;
   few : vec_len l.self.modules ≤ 4096;
   tree : g.F.Files.tree l.files ≡ g.F.Files.tree l.fn.files;

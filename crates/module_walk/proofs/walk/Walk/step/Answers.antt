@@ -5,6 +5,7 @@ use Rattle.module_walk.specs.View.{setting, with_imports, module_view}
 use Rattle.std.proofs.lemmas.List.{length-map}
 use Rattle.module_walk.proofs.Lists.{item_at}
 use Rattle.module_walk.proofs.Meeting.{both, anyhow}
+use Rattle.module_walk.proofs.Plain.{plain_put, sources_put}
 use Rattle.module_walk.proofs.Stepping.{one_read, none_there, grows_within}
 use Rattle.module_walk.proofs.walk.Walk.step.Goals as goal
 
@@ -30,3 +31,29 @@ returns-clause-walked g c =
     one_read H (s t) m old now (record { entry = now.entry; modules = c.put_imports.new.modules; known = now.known }) c.args.index before (with_imports before c.in_ok-imports.imports)
     w (walk m w.walk) c.in_ok-imports.ensures.grows (omega (arith, within, length-map old.modules.items module_view)) (read m w.walk)
     there.1 (c.put_imports.ensures.written before there.1) refl refl refl)
+
+pub returns-clause-plain : goal.returns-clause-plain
+returns-clause-plain g c =
+    let old = c.args.self.now in
+    let now = c.imports_at.new.self in
+    let within : c.args.index < length old.modules.items =
+    omega (arith, c.if-index-len.false, c.len.ensures, old.modules.ok) in
+    let there = item_at now.modules.items c.args.index
+    (grows_within old now c.args.index c.in_ok-imports.ensures.grows within) in
+    plain_put c.args.core.now.keys old now
+    (record { entry = now.entry; modules = c.put_imports.new.modules; known = now.known }) c.args.index there.0
+    c.in_ok-imports.imports
+    (record { there = there.1; put = c.put_imports.ensures.written there.0 there.1; known = refl })
+    c.in_ok-imports.ensures.plain
+
+pub returns-clause-sources : goal.returns-clause-sources
+returns-clause-sources g c =
+    let old = c.args.self.now in
+    let now = c.imports_at.new.self in
+    let within : c.args.index < length old.modules.items =
+    omega (arith, c.if-index-len.false, c.len.ensures, old.modules.ok) in
+    let there = item_at now.modules.items c.args.index
+    (grows_within old now c.args.index c.in_ok-imports.ensures.grows within) in
+    sources_put old now (record { entry = now.entry; modules = c.put_imports.new.modules; known = now.known })
+    c.args.index there.0 c.in_ok-imports.imports c.in_ok-imports.ensures.grows
+    (record { there = there.1; put = c.put_imports.ensures.written there.0 there.1; known = refl })

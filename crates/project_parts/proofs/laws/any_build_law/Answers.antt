@@ -1,0 +1,5 @@
+use Rattle.project_parts.proofs.Differing.{build}
+use Rattle.project_parts.proofs.laws.any_build_law.Goals as goal
+
+pub returns : goal.returns
+returns c core ms order b = build core ms order b
