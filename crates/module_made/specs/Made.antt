@@ -3,16 +3,19 @@
 -- module must have what the compiler takes for granted of the core library. The path of the file stands in faults
 -- alone.
 use Rattle.std.specs.Prelude.{◌≡◌, ℕ, List, [], ◌∷◌, Option, Some, None, map, codes}
+use Rattle.std.specs.List.{AllByRecursion}
 use Rattle.elm_base.specs.declared.position.Pos.{Pos}
 use Rattle.elm_base.specs.declared.fault.Code.{Code}
 use Rattle.elm_base.specs.declared.fault.Code.TheVariants.{FileTooLarge}
 use Rattle.elm_base.specs.declared.fault.Fault.{Fault}
 use Rattle.elm_canon.specs.Names.{Name}
 use Rattle.elm_canon.specs.Tree.{Module}
+use Rattle.elm_canon.specs.declared.reference.Ref.{Ref}
 use Rattle.elm_lexer.specs.Tokens as lexed
 use Rattle.elm_lexer.specs.Tokens.{Token}
 use Rattle.elm_parser.specs.Parsed.{IsText, HasTextFault}
 use Rattle.elm_tree.specs.Tree as tree
+use Rattle.elm_type.specs.Types.{Leaf, Free, Fixed, Scheme, variables}
 use Rattle.canon_env.specs.declared.finding.Finding.{Finding}
 use Rattle.canon_module.specs.Resolve as names
 use Rattle.canon_module.specs.Resolve.{IsModule, module_shows}
@@ -85,10 +88,15 @@ pub record IsNamed (a : Around) (text : List ℕ) (t : tree.Module) (m : Module)
 abbrev pub root : Place
 root = 0 ∷ []
 
--- and these are the types of its definitions
+abbrev pub IsVariable : Leaf ℕ → Type 0
+IsVariable (Free i) = Unit {0}
+IsVariable (Fixed r) = ⊥
+
+-- and these are the types of its definitions, which name no constants of annotations
 pub record IsTyped (a : Around) (text : List ℕ) (t : tree.Module) (m : Module) (told : Schemes) : Type 0 where
   pub is_named : IsNamed a text t m
   pub typed : Inferred m (known_by a.interfaces) root told
+  pub closed : (x : Ref) (s : Scheme) → told x ≡ Some s → AllByRecursion IsVariable (variables s.type)
 
 abbrev pub good : Around → tree.Module → Module → Schemes → Value
 good a t m told =

@@ -1,10 +1,10 @@
 -- What the compiler takes for granted of the core library, and checks of each module: the functions that operators name
--- are there, and the truth values are two. (elm/core 1.0.5: Basics, List.) `Basics` and `List` define these functions.
--- Each other module is offered them by the interfaces of these two, or does not use them.
+-- are there, the truth values are two, and core modules declare what the table of `core_facts` says. (elm/core 1.0.5:
+-- Basics, List.) `Basics` and `List` define the functions of operators. Each other module is offered them by the
+-- interfaces of these two, or does not use them.
 use Rattle.std.specs.Prelude.{List, [], ◌∷◌, ◌++◌, Bool, false, not, ◌&&◌, ◌||◌, if◌then◌else◌, Option, Some, None}
 use Rattle.std.specs.Prelude.{map, flat_map, length, nat_eq, nat_lt, codes}
 use Rattle.std.specs.List.{list_any, list_all}
-use Rattle.elm_base.specs.declared.fault.Code.{Code}
 use Rattle.elm_base.specs.declared.fault.Code.TheVariants.{UnknownValue, ConstructorArity}
 use Rattle.elm_canon.specs.Names.{Name, same_name}
 use Rattle.elm_canon.specs.declared.reference.Ref.{Ref}
@@ -20,10 +20,8 @@ use Rattle.canon_declared.specs.Unions.{is_type}
 use Rattle.fragments.specs.Made.{refs_used}
 use Rattle.interface.specs.Interface.{Interface}
 use Rattle.module_offers.specs.Offers.{basic_functions}
-
--- a fault of the whole text
-abbrev pub fault_of : Code → Name → List Finding
-fault_of code x = record { code = code; place = record { row = 1; column = 1 }; detail = x } ∷ []
+pub use Rattle.core_facts.specs.Facts.{fault_of}
+use Rattle.core_facts.specs.Facts.{core_faults}
 
 -- ---- the functions that operators name
 
@@ -76,4 +74,4 @@ truth_faults home u = if is_no_bool home u then fault_of ConstructorArity (codes
 unfoldable pub operator_faults : Option Interface → Option Interface → Module → List Finding
 operator_faults basics lists m =
     flat_map (function_faults (codes "Basics") basics m) basic_functions
-    ++ function_faults (codes "List") lists m (codes "cons") ++ flat_map (truth_faults m.name) m.unions
+    ++ function_faults (codes "List") lists m (codes "cons") ++ flat_map (truth_faults m.name) m.unions ++ core_faults m

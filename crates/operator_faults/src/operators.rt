@@ -11,9 +11,8 @@ use crate::functions::has_function;
 use crate::truths::is_no_bool;
 use canon_env::finding::Finding;
 use canon_sites::order::in_order;
+use core_facts::facts::{push_core_faults, push_fault};
 use elm_base::fault::Code;
-use elm_base::position::Pos;
-use elm_base::text::Text;
 use elm_canon::tree::{Module, UnionDeclaration};
 use elm_names::name::Name;
 use interface::Interface;
@@ -41,23 +40,6 @@ const BASIC_FUNCTIONS: [&[u8]; 18] = [
     b"composeL",
     b"composeR",
 ];
-
-/// Adds a fault of the whole text.
-fn push_fault(
-    alloc: Global,
-    code: Code,
-    detail: &[u8],
-    findings: &mut Vec<Finding>,
-) -> Result<(), AllocError>
-    ensures { OnOk result (findings.new.items ≡ findings.old.items ++ spec.fault_of code detail.now) }
-{
-    findings.push(Finding {
-        code,
-        place: Pos { row: 1, column: 1 },
-        detail: Text::copy(alloc, detail)?,
-    })?;
-    Ok(())
-}
 
 /// Adds the fault that the module has not the function `function` of the module `home`, if that is so.
 fn push_function(
@@ -116,9 +98,9 @@ fn push_truths(
 }
 
 /// What the module `module` lacks of what the compiler takes for granted of the core library, each once and in order:
-/// the functions that operators name, as far as it needs them, and where it is `Basics` the two truth values. `basics`
-/// and `lists` are the interfaces of `Basics` and `List`, if it imports them. A module that imports both is not walked.
-/// The error means that memory ran out.
+/// the functions that operators name, as far as it needs them, and where it is of the core library the unions and the
+/// annotations that the compiler speaks of. `basics` and `lists` are the interfaces of `Basics` and `List`, if it imports
+/// them. A module that imports both is not walked for uses. The error means that memory ran out.
 #[tactic(auto, unfolding(crate::specs::Faults::operator_faults))]
 pub fn operator_faults(
     alloc: Global,
@@ -140,5 +122,6 @@ pub fn operator_faults(
     )?;
     push_function(alloc, b"List", lists, module, b"cons", &mut findings)?;
     push_truths(alloc, &module.name, &module.unions, &mut findings)?;
+    push_core_faults(alloc, module, &mut findings)?;
     in_order(alloc, findings)
 }

@@ -33,6 +33,7 @@ use Rattle.canon_proper.specs.Worlds.{operator_ref}
 use Rattle.interface.specs.Interface.{Interface}
 use Rattle.module_offers.specs.Offers.{basic_functions}
 use Rattle.module_proper.specs.Counted.{HaveFewer}
+use Rattle.core_facts.specs.Facts.{core_faults}
 use Rattle.operator_faults.specs.Faults.{fault_of, defines, uses, offers, has_function, function_faults, are_truths}
 use Rattle.operator_faults.specs.Faults.{is_no_bool, truth_faults, operator_faults}
 use Rattle.operator_laws.specs.Laws.{OwnOperators, HaveTruths, interface_for, OtherOperators, IsWhole, OwnLaw, TruthLaw}
@@ -243,12 +244,15 @@ module _ (basics lists : Option Interface) (s : Setting) (ds : List Declaration)
   abbrev of_truths : List Finding
   of_truths = flat_map (truth_faults m.name) m.unions
 
-  nothing : of_basics ++ of_list ++ of_truths ≡ []
+  nothing : of_basics ++ of_list ++ of_truths ++ core_faults m ≡ []
   unfolding operator_faults
   nothing = h.whole
 
   parts : ((of_basics ≡ []) × (of_list ≡ [])) × (of_truths ≡ [])
-  parts = let p = append_none (of_basics ++ of_list) of_truths nothing in (append_none of_basics of_list p.0, p.1)
+  parts =
+      let whole = append_none (of_basics ++ of_list ++ of_truths) (core_faults m) nothing in
+      let p = append_none (of_basics ++ of_list) of_truths whole.0 in
+      (append_none of_basics of_list p.0, p.1)
 
   abbrev operator_home_of : List ℕ → Name
   operator_home_of op = text_units (operator_home op)

@@ -23,7 +23,8 @@ returns-then-len-ne0-clause-made c =
     c.in_ok-found.ensures in
     subst (λ fs. AfterNames a path m s (Bad fs))
     (sym (c.in_ok-faults_of.ensures ∙ ap (map (fault_in path)) c.deref-then-len-ne0.ensures.value))
-    (uncovered_after a path m s (schemes_of c.args.told.now.types) c.requires.typed found
+    (uncovered_after a path m s (schemes_of c.args.told.now.types) c.requires.typed
+    c.requires.written found
     (λ e. omega (arith, c.if-len-ne0.true, c.len.ensures, e)) order)
 
 pub returns-clause-made : goal.returns-clause-made
@@ -37,5 +38,6 @@ returns-clause-made c =
     subst (λ (r : Resolved). IsInOrder (patterns.module_faults (module_view r.module)) found) c.deref.ensures
     c.in_ok-found.ensures in
     subst (AfterNames a path m s) (sym c.in_ok-made.ensures.made)
-    (fine_after a path m s (schemes_of c.args.told.now.types) c.requires.typed found
+    (fine_after a path m s (schemes_of c.args.told.now.types) c.requires.typed
+    c.requires.written found
     (omega (arith, c.if-len-ne0.false, c.len.ensures)) order)
