@@ -1,0 +1,2 @@
+-- a build has few modules
+pub mod Counted

@@ -1,0 +1,2 @@
+-- what a finished build is
+pub mod View
