@@ -1,0 +1,4 @@
+//! The fields that a resolved module's record patterns and record updates name.
+#![tactic(auto)]
+
+pub mod laws;

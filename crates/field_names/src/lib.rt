@@ -1,0 +1,2 @@
+//! Trees whose record patterns and record updates name fields that meet conditions.
+#![tactic(auto)]

@@ -1,0 +1,11 @@
+-- The record updates of a read text name fields. Its record patterns may name none: `{}` is one.
+use Rattle.std.specs.Prelude.{List}
+use Rattle.elm_lexer.specs.Tokens.{Token}
+use Rattle.elm_tree.specs.Tree as tree
+use Rattle.field_names.specs.Canonical.{anything, is_some}
+use Rattle.field_names.specs.Written.{WrittenDeclarations}
+use Rattle.parsed_words.specs.Spelled.{SpellModule}
+
+abbrev pub TextsUpdateSome : Type 0
+TextsUpdateSome =
+    (tokens : List Token) (m : tree.Module) → SpellModule tokens m → WrittenDeclarations anything is_some m.declarations
