@@ -50,7 +50,7 @@ get_here : {X : Type 0} (xs ys : List X) (x : X) → slice_get (xs ++ x ∷ ys) 
 get_here [] ys x = refl
 get_here (y ∷ xs) ys x = get_here xs ys x
 
-got_or : {X : Type 0} (d : X) (xs : List X) (i : ℕ) → unwrap_or (slice_get xs i) d ≡ slice_index_or xs i d
+pub got_or : {X : Type 0} (d : X) (xs : List X) (i : ℕ) → unwrap_or (slice_get xs i) d ≡ slice_index_or xs i d
 got_or d [] i = refl
 got_or d (x ∷ xs) zero = refl
 got_or d (x ∷ xs) (suc i) = got_or d xs i
@@ -91,10 +91,10 @@ fine_of a path o v i f (made.fine {text = text} {t = t} {m = m} {told = told} ty
     }
 
 -- all are good
-abbrev IsGood : Value → Type 0
+abbrev pub IsGood : Value → Type 0
 IsGood v = (i : Interface) × (f : Fragment) × (v ≡ Good i f)
 
-abbrev AllGood : List Value → Type 0
+abbrev pub AllGood : List Value → Type 0
 AllGood [] = Unit {0}
 AllGood (v ∷ vs) = IsGood v × AllGood vs
 
@@ -139,7 +139,7 @@ same_count (p ∷ ps) [] rs b = absurd b
 same_count (p ∷ ps) (v ∷ vs) [] b = absurd b
 same_count (p ∷ ps) (v ∷ vs) (r ∷ rs) b = ap (λ n. suc n) (same_count ps vs rs b.1)
 
-next_more : (before rs : List Resolved) (r : Resolved) → AreNext before rs → IsNext (before ++ rs) r →
+pub next_more : (before rs : List Resolved) (r : Resolved) → AreNext before rs → IsNext (before ++ rs) r →
     AreNext before (rs ++ r ∷ [])
 next_more before [] r a n = (subst (λ qs. IsNext qs r) (append-nil before) n, tt)
 next_more before (s ∷ rs) r a n =
@@ -172,7 +172,7 @@ none_same x (p ∷ ps) (v ∷ vs) (r ∷ rs) b f =
     by true s e = absurd (f zero p refl (one_name x r.setting.home s ∙ b.0.home))
     by false s e = e
 
-homes_apart : (ps : List Part) (vs : List Value) (rs : List Resolved) → AreBuilt ps vs rs → Apart ps → HomesApart rs
+pub homes_apart : (ps : List Part) (vs : List Value) (rs : List Resolved) → AreBuilt ps vs rs → Apart ps → HomesApart rs
 homes_apart [] [] [] b a = tt
 homes_apart [] [] (r ∷ rs) b a = absurd b
 homes_apart [] (v ∷ vs) rs b a = absurd b
@@ -185,12 +185,12 @@ homes_apart (p ∷ ps) (v ∷ vs) (r ∷ rs) b a = (
       (λ i j q s e g h. let n = a (suc i) (suc j) q s e g h in omega (arith, n)),
 )
 
-apart_left : (ps qs : List Part) → Apart (ps ++ qs) → Apart ps
+pub apart_left : (ps qs : List Part) → Apart (ps ++ qs) → Apart ps
 apart_left ps qs a i j p q e g h = a i j p q (get_left ps qs i p e) (get_left ps qs j q g) h
 
 -- ---- what a module is compiled in
 
-around_home : (p : Part) (is : List (Name × Interface)) → around_part.home_of (around p is) ≡ home_of p
+pub around_home : (p : Part) (is : List (Name × Interface)) → around_part.home_of (around p is) ≡ home_of p
 around_home p is = by p.is_core
   where
     by : (b : Bool) →
@@ -199,7 +199,7 @@ around_home p is = by p.is_core
     by true = refl
     by false = refl
 
-around_interfaces : (p : Part) (is : List (Name × Interface)) → (around p is).interfaces ≡ by_name is
+pub around_interfaces : (p : Part) (is : List (Name × Interface)) → (around p is).interfaces ≡ by_name is
 around_interfaces p is = by p.is_core
   where
     by : (b : Bool) →
@@ -208,7 +208,7 @@ around_interfaces p is = by p.is_core
     by true = refl
     by false = refl
 
-around_plain : (p : Part) (is : List (Name × Interface)) → IsPlain (around p is)
+pub around_plain : (p : Part) (is : List (Name × Interface)) → IsPlain (around p is)
 around_plain p is = by p.is_core
   where
     by : (b : Bool) →
@@ -421,7 +421,7 @@ module _ (ps : List Part) (values : List Value) (b : IsBuild ps) (made_all : Val
 -- ---- what is linked
 
 -- modules that are linked are all good
-linked_good : (ps : List Part) (values : List Value) (qs : List linked.Part) → length values ≡ length ps →
+pub linked_good : (ps : List Part) (values : List Value) (qs : List linked.Part) → length values ≡ length ps →
     linked_parts (zip ps values) ≡ Some qs → AllGood values
 linked_good [] [] qs n e = tt
 linked_good [] (v ∷ values) qs n e = absurd (omega (arith, n))
@@ -456,7 +456,7 @@ module _ (p : Part) (v : Value) (r : Resolved) (b : IsBuilt p v r) (n : r.whole.
       ap (λ w. linked_parts ((p, w) ∷ rest)) b.value
       ∙ ap (λ q. option_map (λ qs. q ∷ qs) (linked_parts rest)) same_part
 
-same_parts : (before : List Resolved) (ps : List Part) (values : List Value) (rs : List Resolved) →
+pub same_parts : (before : List Resolved) (ps : List Part) (values : List Value) (rs : List Resolved) →
     AreBuilt ps values rs → AreNext before rs → linked_parts (zip ps values) ≡ Some (map part_of (map source_of rs))
 same_parts before [] [] [] b a = refl
 same_parts before [] [] (r ∷ rs) b a = absurd b
@@ -467,7 +467,7 @@ same_parts before (p ∷ ps) (v ∷ values) (r ∷ rs) b a =
     one_part p v r b.0 a.0.is.name (zip ps values)
     ∙ ap (option_map (λ qs. part_by r ∷ qs)) (same_parts (before ++ r ∷ []) ps values rs b.1 a.1)
 
-main_at : (before rs : List Resolved) (ps : List Part) (values : List Value) → AreBuilt ps values rs →
+pub main_at : (before rs : List Resolved) (ps : List Part) (values : List Value) → AreBuilt ps values rs →
     AreNext before rs → (i : ℕ) (r : Resolved) → slice_get rs i ≡ Some r → IsMain r
 main_at before [] ps values b a i r e = absurd cc
 main_at before (s ∷ rs) [] values b a i r e = absurd (none values b)

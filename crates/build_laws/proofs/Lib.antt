@@ -3,6 +3,6 @@ mod Named
 -- what interfaces show
 mod Shows
 -- a module more
-mod Next
+pub mod Next
 -- all modules
 pub mod Chain

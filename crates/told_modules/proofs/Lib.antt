@@ -2,6 +2,6 @@ pub mod Names
 pub mod Uses
 pub mod Lets
 pub mod Resolved
-mod Forms
+pub mod Forms
 mod Inferred
-mod Placed
+pub mod Placed

@@ -173,7 +173,7 @@ module _ (m n : Name) where
     ]
 
     -- in the scope with the group's own names
-    group_in : (g : Group) (scope : Scope) → ProperGroup scope g → GroupMentions anything anything g
+    pub group_in : (g : Group) (scope : Scope) → ProperGroup scope g → GroupMentions anything anything g
         → among y (used_group g) ≡ true
         → among y (with_all (group_names g) scope) ≡ true
     group_in (Together fs) scope p h u = functions_in fs (with_all (function_names fs) scope) p.1 h u

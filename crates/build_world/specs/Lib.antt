@@ -1,0 +1,2 @@
+-- the world of a build
+pub mod Worlds

@@ -1,0 +1,2 @@
+-- all modules
+pub mod Chain

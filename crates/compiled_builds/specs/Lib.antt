@@ -1,0 +1,2 @@
+-- builds of good modules
+pub mod Builds

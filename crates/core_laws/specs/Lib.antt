@@ -1,0 +1,4 @@
+-- constructors of declared unions
+pub mod Unions
+-- what core modules have that lack nothing
+pub mod Facts

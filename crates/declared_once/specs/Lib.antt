@@ -1,0 +1,2 @@
+-- constructors and ports
+pub mod Once

@@ -1,0 +1,2 @@
+-- the types of constructors and ports
+pub mod Schemes

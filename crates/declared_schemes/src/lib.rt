@@ -1,0 +1,4 @@
+//! The types of what modules declare without a body.
+#![tactic(auto)]
+
+pub mod laws;

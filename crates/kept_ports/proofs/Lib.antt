@@ -1,0 +1,4 @@
+-- what is mentioned
+pub mod Joined
+-- ports
+pub mod Ports

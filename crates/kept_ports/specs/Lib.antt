@@ -1,0 +1,2 @@
+-- commands and subscriptions of ports
+pub mod Ports

@@ -1,0 +1,4 @@
+//! Declarations that leave commands and subscriptions as ports made them.
+#![tactic(auto)]
+
+pub mod laws;

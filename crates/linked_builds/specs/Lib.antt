@@ -1,0 +1,2 @@
+-- what a link takes of the modules of a build
+pub mod Pieces

@@ -1,0 +1,4 @@
+//! What a link takes of the modules of a build.
+#![tactic(auto)]
+
+pub mod laws;

@@ -1,0 +1,2 @@
+-- modules and programs
+pub mod Placed

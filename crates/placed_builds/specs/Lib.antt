@@ -1,0 +1,2 @@
+-- programs that are placed in a build
+pub mod Placed

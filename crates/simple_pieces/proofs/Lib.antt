@@ -1,0 +1,2 @@
+-- expressions
+pub mod Simple

@@ -1,0 +1,4 @@
+//! The expressions of a program of the modules of a build.
+#![tactic(auto)]
+
+pub mod laws;

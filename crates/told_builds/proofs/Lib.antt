@@ -1,0 +1,4 @@
+-- modules among others
+pub mod Among
+-- what they tell
+pub mod Told

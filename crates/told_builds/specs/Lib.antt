@@ -1,0 +1,4 @@
+-- modules of a build as they were compiled
+pub mod Compiled
+-- what they tell
+pub mod Told

@@ -1,0 +1,4 @@
+//! What the modules of a build tell each other.
+#![tactic(auto)]
+
+pub mod laws;

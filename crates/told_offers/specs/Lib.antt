@@ -1,0 +1,2 @@
+-- what modules offer
+pub mod Offers

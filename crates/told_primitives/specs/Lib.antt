@@ -1,0 +1,4 @@
+-- annotated names of modules
+pub mod Annotated
+-- functions that no text can say
+pub mod Primitives

@@ -1,0 +1,2 @@
+-- names of unions
+pub mod Names

@@ -1,0 +1,2 @@
+-- constructors of unions
+pub mod Tags

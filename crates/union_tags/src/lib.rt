@@ -1,0 +1,4 @@
+//! The constructors of a module's unions.
+#![tactic(auto)]
+
+pub mod laws;

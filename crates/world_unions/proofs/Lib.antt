@@ -1,0 +1,2 @@
+-- unions
+pub mod Unions

@@ -1,0 +1,4 @@
+//! The unions of a build's world.
+#![tactic(auto)]
+
+pub mod laws;
