@@ -4,6 +4,8 @@
 ///
 /// A build does the same whatever its gate does: a gate only holds a worker back, so that a test can let two compiles
 /// overlap. It can be shared between threads.
+///
+/// Today a build has one worker. It passes the gate once, around all modules, with the numbers 0 and 0.
 pub trait Gate {
     /// Called right before a module is compiled: `worker` is the worker's number, from 0, and `module` the module's
     /// number in the order of the build, from 0.

@@ -31,7 +31,7 @@ all_codes =
     code.UnusedTypeVariable ∷ code.DuplicateTypeVariable ∷ code.BadExtension ∷ code.PortInPlainModule ∷
     code.MixedOperators ∷ code.TupleTooLarge ∷ code.LoneAnnotation ∷ code.RecursiveValue ∷ code.UnknownOperator ∷
     code.PortPayload ∷ code.PortType ∷ code.MainType ∷ code.MainFlags ∷ code.PortClash ∷ code.TypeMismatch ∷
-    code.TypeTooLarge ∷ code.MissingPatterns ∷ code.RedundantPattern ∷ code.PartialParameter ∷ code.NotYet ∷
+    code.TypeTooLarge ∷ code.MissingPatterns ∷ code.RedundantPattern ∷ code.PartialParameter ∷
     code.FileMissing ∷ code.NotElmcOutput ∷ code.BadInputLine ∷ code.UnknownPort ∷ code.GivenFileTooLarge ∷
     code.BadScript ∷ code.ProjectMissing ∷ code.NotJson ∷ code.NotApplication ∷ code.OtherVersion ∷
     code.EntryNotFound ∷ code.TooManyModules ∷ code.BadOutput ∷ []
@@ -89,7 +89,6 @@ found code.TypeTooLarge = refl
 found code.MissingPatterns = refl
 found code.RedundantPattern = refl
 found code.PartialParameter = refl
-found code.NotYet = refl
 found code.FileMissing = refl
 found code.NotElmcOutput = refl
 found code.BadInputLine = refl

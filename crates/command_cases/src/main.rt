@@ -1,14 +1,9 @@
 //! Runs commands over files in memory, and prints what they print and leave: a test of the whole compiler.
 //!
-//! After the name of the program stand the paths of scripts, whose lines `program` describes.
+//! After the name of the program stand the paths of scripts. The crate `case_scripts` says what their lines mean.
 #![tactic(auto)]
 
-mod case;
-mod line;
-mod page;
-mod program;
-
-use crate::program::run_all;
+use case_scripts::run_all;
 use elm_files::{HostFiles, HostSink};
 use std::process::ExitCode;
 use std::rt::Env;

@@ -1,6 +1,7 @@
 -- A build keeps the promise by each way in which it ends: its outcome settles the effect.
-use Rattle.std.proofs.Common.{◌≡◌, ℕ, List, Some, ap, arith, inl, inr, subst}
+use Rattle.std.proofs.Common.{◌≡◌, ◌∙◌, ℕ, List, Some, ap, arith, inl, inr, refl, subst}
 use Rattle.std.specs.Prelude.{◌⊎◌, IfSome}
+use Rattle.std.specs.Str.{IsUtf8}
 use Rattle.std.specs.declared.vec.Vec.{Vec}
 use Rattle.std.specs.declared.alloc.Global.{Global}
 use Rattle.command_line.specs.Command.{make}
@@ -10,67 +11,92 @@ use Rattle.elm_make.specs.declared.project.Built.{Built}
 use Rattle.elm_make.specs.declared.project.BuildEnd.{BuildEnd}
 use Rattle.elm_make.specs.declared.project.BuildEnd.TheVariants.{File, NoMemory}
 use Rattle.elm_make.specs.declared.project.Outcome as program
-use Rattle.elm_make.specs.BuildsTo.{BuildsTo, Faulty, Outcome, Stopped, Text, compiled_line}
-use Rattle.elm_make.specs.End.{HasCause, IsDone, IsNotDone, IsOnly, IsToldIfRose, Leaves, LeavesAtEnd, SaysDone}
-use Rattle.elm_make.specs.Paths.{normal_path}
-use Rattle.elm_make.specs.View.{built_view, outcome_of}
+use Rattle.elm_make.specs.Counts.{Counts}
+use Rattle.elm_make.specs.End.{HasCause, IsDone, IsNotDone, IsOnly, IsShort, IsToldIfRose, Leaves, LeavesAtEnd}
+use Rattle.elm_make.specs.End.{lines_of}
+use Rattle.elm_make.specs.View.{outcome_view}
+use Rattle.build_meaning.specs.Meaning.{OutputsMean}
+use Rattle.project_build.specs.Outcomes.{Clean, Faulty, Outcome, Stopped, Text, fault_lines}
+use Rattle.project_file.specs.Paths.{normal_path}
 use Rattle.commands.specs.Causes.{failure_line, memory_line}
-use Rattle.commands.specs.Effect.{build_effect}
+use Rattle.commands.specs.Effect.{build_effect, complaint}
 use Rattle.commands.specs.Outside.{Outside}
-use Rattle.commands.specs.Promise.{KeepsPromise}
+use Rattle.commands.specs.Promise.{KeepsPromise, Means}
 use Rattle.commands.specs.Report.{Prints, Says}
 use Rattle.commands.proofs.Kept.{at_memory, by_file_failure, by_printing, by_saying, unchanged}
-use Rattle.commands.proofs.Settled.{IsSettled, build_settled}
+use Rattle.commands.proofs.Settled.{IsSettled, build_settled, means, translated}
 
 -- the build has no text
 abbrev pub HasNoText : program.Outcome → Type 0
 HasNoText outcome =
     ((faults : Vec Fault Global) × (outcome ≡ program.Outcome.Stopped faults))
-    ⊎ ((faults : Vec Fault Global) × (outcome ≡ program.Outcome.Faults faults))
+    ⊎ ((faults : Vec Fault Global) × (outcome ≡ program.Outcome.Faulty faults))
 
-module _ (entry output : List ℕ) (jobs : ℕ) (old new : Outside) where
+module _ (law : OutputsMean) (entry output : List ℕ) (jobs : ℕ) (old new : Outside) where
+  abbrev meaning : Means (Some (make entry output jobs)) old.files.tree
+  meaning = means law (Some (make entry output jobs)) old.files.tree
+
   -- ---- a build that was done
 
   module _
-      (built : Built) (one : IfSome old.files.tree (λ files. IsOnly (BuildsTo files entry output) (built_view built)))
+      (built : Built)
+      (one : IfSome old.files.tree (λ files. IsOnly (Clean files entry output) (outcome_view built.outcome)))
+      (count : IfSome old.files.tree (λ files. IsOnly (Counts files entry (outcome_view built.outcome)) built.modules))
       (is_done : IsDone (normal_path output) built old.files new.files) where
     -- its outcome, which is this, settles the effect
-    outcome_settled : (outcome : Outcome) → built_view built ≡ outcome →
+    outcome_settled : (outcome : Outcome) → outcome_view built.outcome ≡ outcome →
         IsSettled (Some (make entry output jobs)) old.files.tree
-        (build_effect (normal_path output) old.files.tree outcome)
+        (build_effect (normal_path output) built.modules old.files.tree outcome)
     outcome_settled outcome is =
-        build_settled entry output jobs old.files.tree outcome
-        (subst (λ o. IfSome old.files.tree (λ files. IsOnly (BuildsTo files entry output) o)) is one)
+        build_settled entry output jobs old.files.tree outcome built.modules
+        (subst (λ o. IfSome old.files.tree (λ files. IsOnly (Clean files entry output) o)) is one)
+        (subst (λ o. IfSome old.files.tree (λ files. IsOnly (Counts files entry o) built.modules)) is count)
 
-    leaves : (outcome : Outcome) → built_view built ≡ outcome →
+    leaves : (outcome : Outcome) → outcome_view built.outcome ≡ outcome →
         Leaves (normal_path output) outcome old.files.tree new.files.tree
     leaves outcome is = subst (λ o. Leaves (normal_path output) o old.files.tree new.files.tree) is is_done.leaves
 
+    lines : (outcome : Outcome) → outcome_view built.outcome ≡ outcome →
+        built.lines.items ≡ lines_of (normal_path output) built.modules outcome
+    lines outcome is = is_done.says ∙ ap (lines_of (normal_path output) built.modules) is
+
     -- the text is written, and its line is put on standard output
-    pub text_written : (text : Vec ℕ Global) → built.outcome ≡ program.Outcome.Text text → (status : ℕ) →
+    pub text_written : IsUtf8 entry → (text : Vec ℕ Global) → built.outcome ≡ program.Outcome.Text text → (status : ℕ) →
         Prints built.lines.items old.out new.out old.err new.err status →
         KeepsPromise (Some (make entry output jobs)) status old new
-    text_written text is status prints =
-        let view : built_view built ≡ Text text.items = ap (λ o. outcome_of o built.lines.items) is in
-        let line : built.lines.items ≡ compiled_line (normal_path output) =
-        subst (λ o. SaysDone o built.lines.items (compiled_line (normal_path output))) view is_done.says in
-        by_printing entry output text.items jobs old new (outcome_settled (Text text.items) view)
-        (leaves (Text text.items) view) is_done.no_fault status
-        (subst (λ l. Prints l old.out new.out old.err new.err status) line prints)
+    text_written utf8 text is status prints =
+        let view : outcome_view built.outcome ≡ Text text.items = ap outcome_view is in
+        let tree = leaves (Text text.items) view in
+        by_printing entry output text.items jobs built.modules old new meaning
+        (translated law entry output text.items jobs old.files.tree new.files.tree utf8
+        (subst (λ o. IfSome old.files.tree (λ files. IsOnly (Clean files entry output) o)) view one)
+        (subst IsShort view is_done.short) tree)
+        (outcome_settled (Text text.items) view) tree is_done.no_fault status
+        (subst (λ l. Prints l old.out new.out old.err new.err status) (lines (Text text.items) view) prints)
 
-    -- there is no text, and the lines that say why are put on standard error
+    -- there is no text, and the lines of the faults are put on standard error
+    says_faults : (outcome : Outcome) (faults : List Fault) → outcome_view built.outcome ≡ outcome →
+        lines_of (normal_path output) built.modules outcome ≡ fault_lines faults →
+        build_effect (normal_path output) built.modules old.files.tree outcome
+        ≡ complaint 1 (fault_lines faults) old.files.tree →
+        new.files.tree ≡ old.files.tree → new.out ≡ old.out → (status : ℕ) →
+        Says built.lines.items 1 old.err new.err status → KeepsPromise (Some (make entry output jobs)) status old new
+    says_faults outcome faults is told effect tree out status says =
+        by_saying (Some (make entry output jobs)) old new meaning 1 (fault_lines faults) (omega arith) (omega arith)
+        (subst (IsSettled (Some (make entry output jobs)) old.files.tree) effect (outcome_settled outcome is)) tree
+        is_done.no_fault (ap (λ s. s.text) out) (ap (λ s. s.faults) out) status
+        (subst (λ l. Says l 1 old.err new.err status) (lines outcome is ∙ told) says)
+
     pub refused : HasNoText built.outcome → new.out ≡ old.out → (status : ℕ) →
         Says built.lines.items 1 old.err new.err status → KeepsPromise (Some (make entry output jobs)) status old new
     refused (inl stopped) out status says =
-        let view : built_view built ≡ Stopped built.lines.items = ap (λ o. outcome_of o built.lines.items) stopped.1 in
-        by_saying (Some (make entry output jobs)) old new 1 built.lines.items (omega arith)
-        (outcome_settled (Stopped built.lines.items) view) (leaves (Stopped built.lines.items) view) is_done.no_fault
-        (ap (λ s. s.text) out) (ap (λ s. s.faults) out) status says
+        let view : outcome_view built.outcome ≡ Stopped stopped.0.items = ap outcome_view stopped.1 in
+        says_faults (Stopped stopped.0.items) stopped.0.items view refl refl (leaves (Stopped stopped.0.items) view) out
+        status says
     refused (inr faulty) out status says =
-        let view : built_view built ≡ Faulty built.lines.items = ap (λ o. outcome_of o built.lines.items) faulty.1 in
-        by_saying (Some (make entry output jobs)) old new 1 built.lines.items (omega arith)
-        (outcome_settled (Faulty built.lines.items) view) (leaves (Faulty built.lines.items) view) is_done.no_fault
-        (ap (λ s. s.text) out) (ap (λ s. s.faults) out) status says
+        let view : outcome_view built.outcome ≡ Faulty faulty.0.items = ap outcome_view faulty.1 in
+        says_faults (Faulty faulty.0.items) faulty.0.items view refl refl (leaves (Faulty faulty.0.items) view) out
+        status says
 
   -- ---- a build that was not done
 
@@ -81,7 +107,7 @@ module _ (entry output : List ℕ) (jobs : ℕ) (old new : Outside) where
         LongerByPart old.err.text (failure_line path) new.err.text →
         KeepsPromise (Some (make entry output jobs)) status old new
     file_failed path is status three told =
-        by_file_failure (Some (make entry output jobs)) old new path status three
+        by_file_failure (Some (make entry output jobs)) old new meaning path status three
         (subst (λ e. HasCause e old.files.faults new.files.faults) is not_done.cause) told (ap (λ s. s.text) out)
         (subst (λ e. LeavesAtEnd (normal_path output) e old.files.tree new.files.tree) is not_done.leaves)
 
@@ -90,7 +116,7 @@ module _ (entry output : List ℕ) (jobs : ℕ) (old new : Outside) where
     out_of_memory is status four told =
         let tree : new.files.tree ≡ old.files.tree =
         subst (λ e. LeavesAtEnd (normal_path output) e old.files.tree new.files.tree) is not_done.leaves in
-        at_memory (Some (make entry output jobs)) status old new four told
+        at_memory (Some (make entry output jobs)) status old new meaning four told
         (subst (λ e. IsToldIfRose e old.files.faults new.files.faults) is not_done.told) (ap (λ s. s.faults) out)
         (inl (ap (λ s. s.text) out))
         (unchanged (Some (make entry output jobs)) old.files.tree new.files.tree tree) (inl tree)

@@ -9,15 +9,16 @@ use Rattle.elm_files.specs.States.{SinkState}
 use Rattle.elm_files.specs.Texts.{LongerByPart, longer}
 use Rattle.elm_files.specs.Tree.{Tree, file_at, with_file}
 use Rattle.elm_files.proofs.Trees.{file_at-with_file_other}
-use Rattle.elm_make.specs.BuildsTo.{Text, compiled_line}
-use Rattle.elm_make.specs.Paths.{normal_path}
+use Rattle.project_build.specs.Outcomes.{Text, compiled_line}
+use Rattle.project_file.specs.Paths.{normal_path}
 use Rattle.commands.specs.Causes.{SomeCountRose, TellsFile, err_rose, failure_line, file_rose, memory_line, out_rose}
 use Rattle.commands.specs.Effect.{Effect, build_effect, complaint}
 use Rattle.commands.specs.Outside.{Outside}
-use Rattle.commands.specs.Promise.{ChangesOnly, HasComplained, HasPrinted, HasWritten, KeepsPromise}
+use Rattle.commands.specs.Promise.{ChangesOnly, HasComplained, HasPrinted, HasTranslation, HasWritten, KeepsPromise}
+use Rattle.commands.specs.Promise.{Means}
 use Rattle.commands.specs.Report.{Prints, Says, all_printed, all_said, none_printed, none_said, part_printed, part_said}
 use Rattle.commands.proofs.Pieces.{all, longer_nil}
-use Rattle.commands.proofs.Settled.{IsSettled, means}
+use Rattle.commands.proofs.Settled.{IsSettled}
 
 -- no count rose if all are as before
 pub none_rose : (old new : List ℕ → ℕ) → new ≡ old → SomeRose old new → ⊥
@@ -46,7 +47,7 @@ written entry output jobs old new text same = record {
     told None = refl
     told (Some tree) = refl
 
-module _ (asked : Option Command) (status : ℕ) (old new : Outside) where
+module _ (asked : Option Command) (status : ℕ) (old new : Outside) (meaning : Means asked old.files.tree) where
   -- ---- the three ways to end
 
   -- status 0, 1 or 2
@@ -54,8 +55,8 @@ module _ (asked : Option Command) (status : ℕ) (old new : Outside) where
       new.out.text ≡ longer old.out.text effect.out → new.err.text ≡ longer old.err.text effect.err →
       new.files.tree ≡ effect.tree → ChangesOnly asked old.files.tree new.files.tree →
       new.files.faults ≡ old.files.faults → new.out.faults ≡ old.out.faults → new.err.faults ≡ old.err.faults →
-      KeepsPromise asked status old new
-  whole effect settled is low out err tree elsewhere no_file no_out no_err = record {
+      (status ≡ 0 → HasTranslation asked old.files.tree new.files.tree) → KeepsPromise asked status old new
+  whole effect settled is low out err tree elsewhere no_file no_out no_err translated = record {
     known = omega arith;
     done = λ _. record { effect = effect; given = settled.given; status_is = is; out = out; err = err; tree = tree };
     failed = λ three. absurd (omega arith);
@@ -75,7 +76,8 @@ module _ (asked : Option Command) (status : ℕ) (old new : Outside) where
     kept = λ _. inr (record { effect = effect; given = settled.given; tree = tree });
     complete = λ other known has differs.
         absurd (differs (is ∙ sym (ap (λ (e : Effect). e.status) (settled.only other known has))));
-    meaning = means asked old.files.tree;
+    meaning = meaning;
+    translated = translated;
   }
 
   -- status 3
@@ -99,7 +101,8 @@ module _ (asked : Option Command) (status : ℕ) (old new : Outside) where
     elsewhere = elsewhere;
     kept = kept;
     complete = λ _ _ _ _. inl is;
-    meaning = means asked old.files.tree;
+    meaning = meaning;
+    translated = λ zero. absurd (omega arith);
   }
 
   -- status 4
@@ -121,73 +124,68 @@ module _ (asked : Option Command) (status : ℕ) (old new : Outside) where
     elsewhere = elsewhere;
     kept = λ _. kept;
     complete = λ _ _ _ _. inr is;
-    meaning = means asked old.files.tree;
+    meaning = meaning;
+    translated = λ zero. absurd (omega arith);
   }
 
 -- ---- the reports
 
-module _ (asked : Option Command) (old new : Outside) where
+module _ (asked : Option Command) (old new : Outside) (meaning : Means asked old.files.tree) where
   -- a failed file is named on standard error
   pub by_file_failure : (path : List ℕ) (status : ℕ) → status ≡ 3 → old.files.faults path < new.files.faults path →
       LongerByPart old.err.text (failure_line path) new.err.text → new.out.text ≡ old.out.text →
       ChangesOnly asked old.files.tree new.files.tree → KeepsPromise asked status old new
   by_file_failure path status is rose told out elsewhere =
-      at_failure asked status old new is (file_rose path rose) (λ _. record { path = path; rose = rose; told = told })
+      at_failure asked status old new meaning is (file_rose path rose)
+      (λ _. record { path = path; rose = rose; told = told })
       (λ same. absurd (none_rose old.files.faults new.files.faults same (path, rose))) (inl out) elsewhere
       (λ same. absurd (none_rose old.files.faults new.files.faults same (path, rose)))
 
   -- the lines of a complaint are put on standard error
-  pub by_saying : (wanted : ℕ) (lines : List ℕ) → wanted < 3 →
+  pub by_saying : (wanted : ℕ) (lines : List ℕ) → 0 < wanted → wanted < 3 →
       IsSettled asked old.files.tree (complaint wanted lines old.files.tree) →
       new.files.tree ≡ old.files.tree → new.files.faults ≡ old.files.faults →
       new.out.text ≡ old.out.text → new.out.faults ≡ old.out.faults →
       (status : ℕ) → Says lines wanted old.err new.err status → KeepsPromise asked status old new
-  by_saying wanted lines low settled tree no_file out no_out _ (all_said text no_err) =
-      whole asked wanted old new (complaint wanted lines old.files.tree) settled refl low
+  by_saying wanted lines some low settled tree no_file out no_out _ (all_said text no_err) =
+      whole asked wanted old new meaning (complaint wanted lines old.files.tree) settled refl low
       (out ∙ sym (longer_nil old.out.text)) text tree (unchanged asked old.files.tree new.files.tree tree)
-      no_file no_out no_err
-  by_saying wanted lines low settled tree no_file out no_out _ (part_said part rose) =
-      at_failure asked 3 old new refl (err_rose rose)
+      no_file no_out no_err (λ zero. absurd (omega arith))
+  by_saying wanted lines some low settled tree no_file out no_out _ (part_said part rose) =
+      at_failure asked 3 old new meaning refl (err_rose rose)
       (λ rose. absurd (none_rose old.files.faults new.files.faults no_file rose))
       (λ _. inr (record { effect = complaint wanted lines old.files.tree; given = settled.given; err = part }))
       (inl out) (unchanged asked old.files.tree new.files.tree tree) (λ _. inl tree)
-  by_saying wanted lines low settled tree no_file out no_out _ (none_said told) =
-      at_memory asked 4 old new refl told no_file no_out (inl out) (unchanged asked old.files.tree new.files.tree tree)
+  by_saying wanted lines some low settled tree no_file out no_out _ (none_said told) =
+      at_memory asked 4 old new meaning refl told no_file no_out (inl out)
+      (unchanged asked old.files.tree new.files.tree tree)
       (inl tree)
 
 -- the output of a build is written, and its line is put on standard output
-pub by_printing : (entry output text : List ℕ) (jobs : ℕ) (old new : Outside) →
-    IsSettled (Some (make entry output jobs)) old.files.tree
-    (build_effect (normal_path output) old.files.tree (Text text)) →
-    new.files.tree ≡ with_file old.files.tree (normal_path output) text → new.files.faults ≡ old.files.faults →
-    (status : ℕ) → Prints (compiled_line (normal_path output)) old.out new.out old.err new.err status →
-    KeepsPromise (Some (make entry output jobs)) status old new
-by_printing entry output text jobs old new settled tree no_file _ (all_printed told no_out quiet) =
-    whole (Some (make entry output jobs)) 0 old new (build_effect (normal_path output) old.files.tree (Text text))
-    settled refl (omega arith) told (ap (λ (s : SinkState). s.text) quiet ∙ sym (longer_nil old.err.text)) tree
-    (written entry output jobs old.files.tree new.files.tree text tree) no_file no_out
-    (ap (λ (s : SinkState). s.faults) quiet)
-by_printing entry output text jobs old new settled tree no_file _ (part_printed part rose quiet) =
-    at_failure (Some (make entry output jobs)) 3 old new refl (out_rose rose)
-    (λ rose. absurd (none_rose old.files.faults new.files.faults no_file rose))
-    (λ _. inl (ap (λ (s : SinkState). s.text) quiet))
-    (inr (record {
-      effect = build_effect (normal_path output) old.files.tree (Text text);
-      given = settled.given;
-      tree = tree;
-      out = part;
-    }))
-    (written entry output jobs old.files.tree new.files.tree text tree)
-    (λ _. inr (record {
-      effect = build_effect (normal_path output) old.files.tree (Text text);
-      given = settled.given;
-      tree = tree;
-    }))
-by_printing entry output text jobs old new settled tree no_file _ (none_printed out no_out told) =
-    at_memory (Some (make entry output jobs)) 4 old new refl told no_file no_out (inl out)
-    (written entry output jobs old.files.tree new.files.tree text tree)
-    (inr (record {
-      effect = build_effect (normal_path output) old.files.tree (Text text);
-      given = settled.given;
-      tree = tree;
-    }))
+module _
+    (entry output text : List ℕ) (jobs n : ℕ) (old new : Outside)
+    (meaning : Means (Some (make entry output jobs)) old.files.tree)
+    (translated : HasTranslation (Some (make entry output jobs)) old.files.tree new.files.tree) where
+  abbrev effect : Effect
+  effect = build_effect (normal_path output) n old.files.tree (Text text)
+
+  pub by_printing : IsSettled (Some (make entry output jobs)) old.files.tree effect →
+      new.files.tree ≡ with_file old.files.tree (normal_path output) text → new.files.faults ≡ old.files.faults →
+      (status : ℕ) → Prints (compiled_line (normal_path output) n) old.out new.out old.err new.err status →
+      KeepsPromise (Some (make entry output jobs)) status old new
+  by_printing settled tree no_file _ (all_printed told no_out quiet) =
+      whole (Some (make entry output jobs)) 0 old new meaning effect settled refl (omega arith) told
+      (ap (λ (s : SinkState). s.text) quiet ∙ sym (longer_nil old.err.text)) tree
+      (written entry output jobs old.files.tree new.files.tree text tree) no_file no_out
+      (ap (λ (s : SinkState). s.faults) quiet) (λ _. translated)
+  by_printing settled tree no_file _ (part_printed part rose quiet) =
+      at_failure (Some (make entry output jobs)) 3 old new meaning refl (out_rose rose)
+      (λ rose. absurd (none_rose old.files.faults new.files.faults no_file rose))
+      (λ _. inl (ap (λ (s : SinkState). s.text) quiet))
+      (inr (record { effect = effect; given = settled.given; tree = tree; out = part }))
+      (written entry output jobs old.files.tree new.files.tree text tree)
+      (λ _. inr (record { effect = effect; given = settled.given; tree = tree }))
+  by_printing settled tree no_file _ (none_printed out no_out told) =
+      at_memory (Some (make entry output jobs)) 4 old new meaning refl told no_file no_out (inl out)
+      (written entry output jobs old.files.tree new.files.tree text tree)
+      (inr (record { effect = effect; given = settled.given; tree = tree }))

@@ -55,7 +55,7 @@ module _ (program inputs : List ℕ) (fuel : ℕ) (old new : Outside) (tree : ne
       IsRunInPart old.files.tree program inputs fuel old.out.text new.out.text → new.err.text ≡ old.err.text →
       KeepsPromise (Some (run program inputs fuel)) 3 old new
   sink_failed rose no_file part err =
-      at_failure (Some (run program inputs fuel)) 3 old new refl (out_rose rose)
+      at_failure (Some (run program inputs fuel)) 3 old new tt refl (out_rose rose)
       (λ rose. absurd (none_rose old.files.faults new.files.faults no_file rose)) (λ _. inl err) (inr (put_part part))
       (unchanged (Some (run program inputs fuel)) old.files.tree new.files.tree tree) (λ _. inl tree)
 
@@ -65,7 +65,7 @@ module _ (program inputs : List ℕ) (fuel : ℕ) (old new : Outside) (tree : ne
       (new.out.text ≡ old.out.text) ⊎ IsRunInPart old.files.tree program inputs fuel old.out.text new.out.text →
       KeepsPromise (Some (run program inputs fuel)) status old new
   out_of_memory status is told no_file no_out part =
-      at_memory (Some (run program inputs fuel)) status old new is told no_file no_out (on_out part)
+      at_memory (Some (run program inputs fuel)) status old new tt is told no_file no_out (on_out part)
       (unchanged (Some (run program inputs fuel)) old.files.tree new.files.tree tree) (inl tree)
     where
       on_out :
@@ -82,12 +82,12 @@ module _ (program inputs : List ℕ) (fuel : ℕ) (old new : Outside) (tree : ne
         new.out.text ≡ longer old.out.text (told_text trace) → new.err ≡ old.err →
         KeepsPromise (Some (run program inputs fuel)) (run_status ready) old new
     told ready trace is ends out quiet =
-        whole (Some (run program inputs fuel)) (run_status ready) old new (run_effect old.files.tree (Ran trace))
+        whole (Some (run program inputs fuel)) (run_status ready) old new tt (run_effect old.files.tree (Ran trace))
         (outcome_settled program inputs fuel old.files.tree old.out.text new.out.text e r (Ran trace) is)
         (ap run_status (sym ends)) (low_status (is_ready trace)) out
         (ap (λ s. s.text) quiet ∙ sym (longer_nil old.err.text)) tree
         (unchanged (Some (run program inputs fuel)) old.files.tree new.files.tree tree) no_file no_out
-        (ap (λ s. s.faults) quiet)
+        (ap (λ s. s.faults) quiet) (λ _. tt)
 
     pub ready : e ≡ ended.Ready → new.err ≡ old.err → KeepsPromise (Some (run program inputs fuel)) 0 old new
     ready is quiet =
@@ -104,6 +104,6 @@ module _ (program inputs : List ℕ) (fuel : ℕ) (old new : Outside) (tree : ne
         Says line.items 1 old.err new.err status → KeepsPromise (Some (run program inputs fuel)) status old new
     refused line is status said =
         let says = subst (λ x. end.Says x r.outcome old.out.text new.out.text) is r.says in
-        by_saying (Some (run program inputs fuel)) old new 1 line.items (omega arith)
+        by_saying (Some (run program inputs fuel)) old new tt 1 line.items (omega arith) (omega arith)
         (outcome_settled program inputs fuel old.files.tree old.out.text new.out.text e r (Refused line.items) says.0)
         tree no_file says.1 no_out status said

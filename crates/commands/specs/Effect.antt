@@ -2,8 +2,9 @@
 use Rattle.std.specs.Prelude.{◌≡◌, ℕ, List, [], Option, Some, None, IfSome, if◌then◌else◌}
 use Rattle.command_line.specs.Command.{Command, make, run}
 use Rattle.elm_files.specs.Tree.{Tree, with_file}
-use Rattle.elm_make.specs.BuildsTo.{Outcome, Stopped, Faulty, Text, BuildsTo, compiled_line}
-use Rattle.elm_make.specs.Paths.{normal_path}
+use Rattle.elm_make.specs.Counts.{Counts}
+use Rattle.project_build.specs.Outcomes.{Outcome, Stopped, Faulty, Text, Clean, fault_lines, compiled_line}
+use Rattle.project_file.specs.Paths.{normal_path}
 use Rattle.run_files.specs.Runs as runs
 use Rattle.run_files.specs.Runs.{Refused, Ran, RunsTo}
 use Rattle.run_text.specs.Told.{told_text, is_ready}
@@ -20,12 +21,12 @@ pub record Effect : Type 0 where
 abbrev pub complaint : ℕ → List ℕ → Option Tree → Effect
 complaint status lines tree = record { status = status; out = []; err = lines; tree = tree }
 
--- a build into the file at this path writes the text and says so, or says why there is none
-abbrev pub build_effect : List ℕ → Option Tree → Outcome → Effect
-build_effect path tree (Text text) =
-    record { status = 0; out = compiled_line path; err = []; tree = with_file tree path text }
-build_effect path tree (Stopped lines) = complaint 1 lines tree
-build_effect path tree (Faulty lines) = complaint 1 lines tree
+-- a build of so many modules into the file at this path writes the text and says so, or tells the faults
+abbrev pub build_effect : List ℕ → ℕ → Option Tree → Outcome → Effect
+build_effect path n tree (Text text) =
+    record { status = 0; out = compiled_line path n; err = []; tree = with_file tree path text }
+build_effect path n tree (Stopped faults) = complaint 1 (fault_lines faults) tree
+build_effect path n tree (Faulty faults) = complaint 1 (fault_lines faults) tree
 
 -- a run prints its text, with status 0 if every input was given, or says why there is no run
 abbrev pub run_effect : Option Tree → runs.Outcome → Effect
@@ -38,9 +39,9 @@ run_effect tree (Refused line) = complaint 1 line tree
 abbrev pub HasEffect : Option Command → Option Tree → Effect → Type 0
 HasEffect None tree effect = effect ≡ complaint 2 USAGE.now tree
 HasEffect (Some (make entry output jobs)) tree effect =
-    (outcome : Outcome)
-    × IfSome tree (λ files. BuildsTo files entry output outcome)
-    × (effect ≡ build_effect (normal_path output) tree outcome)
+    (outcome : Outcome) × (n : ℕ)
+    × IfSome tree (λ files. Clean files entry output outcome × Counts files entry outcome n)
+    × (effect ≡ build_effect (normal_path output) n tree outcome)
 HasEffect (Some (run program inputs fuel)) tree effect =
     (outcome : runs.Outcome)
     × IfSome tree (λ files. RunsTo files program inputs fuel outcome)

@@ -1,13 +1,15 @@
 -- What `elmc` promises for what the words ask, whatever fails. `old` and `new` are what the outside tells before the
 -- call and after it.
-use Rattle.std.specs.Prelude.{◌≡◌, ◌≢◌, ◌<◌, ◌≤◌, ◌⊎◌, ℕ, List, Option, Some, None, IfSome, IsSome}
+use Rattle.std.specs.Prelude.{◌≡◌, ◌≢◌, ◌<◌, ◌≤◌, ◌⊎◌, ℕ, List, length, Option, Some, None, IfSome, IsSome}
+use Rattle.std.specs.Str.{IsUtf8}
 use Rattle.command_line.specs.Command.{Command, make, run}
 use Rattle.elm_files.specs.Answers.{SomeRose}
 use Rattle.elm_files.specs.Texts.{LongerByPart, longer}
-use Rattle.elm_files.specs.Tree.{SameElsewhere, Tree}
-use Rattle.elm_make.specs.BuildsTo.{BuildsTo, Text}
-use Rattle.elm_make.specs.Paths.{normal_path}
-use Rattle.elm_make.specs.Translated.{IsTranslation}
+use Rattle.elm_files.specs.Tree.{SameElsewhere, Tree, file_at}
+use Rattle.elm_meaning.specs.Run.{Program}
+use Rattle.build_meaning.specs.Meaning.{IsSourceProgram, Translates}
+use Rattle.project_build.specs.Outcomes.{Clean, Text}
+use Rattle.project_file.specs.Paths.{normal_path}
 use Rattle.commands.specs.Causes.{IsEither, SomeCountRose, TellsFile, memory_line}
 use Rattle.commands.specs.Effect.{Effect, HasEffect}
 use Rattle.commands.specs.Outside.{Outside}
@@ -51,13 +53,26 @@ abbrev pub IsKnown : Option Command → Option Tree → Type 0
 IsKnown (Some command) tree = IsSome tree
 IsKnown None tree = Unit {0}
 
--- each text that the files give for `make` is the translation of its entry
+-- the text has one tree, which runs as the program does that the modules of the entry's project make
+abbrev pub IsTranslation : Tree → List ℕ → List ℕ → Type 0
+IsTranslation files entry text = (p : Program) × IsSourceProgram files entry p × Translates p text
+
+-- Each text of fewer than 2 to the 32nd bytes that the files give for `make` is the translation of the project. The
+-- path of the entry is in UTF-8, as all words are.
 abbrev pub Means : Option Command → Option Tree → Type 0
 Means (Some (make entry output jobs)) tree =
-    IfSome tree (λ files. (text : List ℕ) →
-    BuildsTo files entry output (Text text) → IsTranslation (files (normal_path entry)) text)
+    IfSome tree (λ files. (text : List ℕ) → IsUtf8 entry → Clean files entry output (Text text)
+    → length text < 4294967296 → IsTranslation files entry text)
 Means (Some (run program inputs fuel)) tree = Unit {0}
 Means None tree = Unit {0}
+
+-- the output of `make` holds the translation of the project that the files had
+abbrev pub HasTranslation : Option Command → Option Tree → Option Tree → Type 0
+HasTranslation (Some (make entry output jobs)) old new =
+    IfSome old (λ files. (text : List ℕ) × (file_at new (normal_path output) ≡ Some text)
+    × IsTranslation files entry text)
+HasTranslation (Some (run program inputs fuel)) old new = Unit {0}
+HasTranslation None old new = Unit {0}
 
 -- the promise for these words, by the status that is returned
 pub record KeepsPromise (asked : Option Command) (status : ℕ) (old new : Outside) : Type 0 where
@@ -89,5 +104,7 @@ pub record KeepsPromise (asked : Option Command) (status : ℕ) (old new : Outsi
   -- the status is that of each effect that the words and the files have, unless it is 3 or 4
   pub complete : (effect : Effect) → IsKnown asked old.files.tree → HasEffect asked old.files.tree effect →
       status ≢ effect.status → IsEither status 3 4
-  -- a text that the files give means what the module means
+  -- a text that the files give means what the modules of the project mean
   pub meaning : Means asked old.files.tree
+  -- with status 0 the output of `make` holds such a text
+  pub translated : status ≡ 0 → HasTranslation asked old.files.tree new.files.tree

@@ -9,6 +9,7 @@ ghost use Rattle.commands.specs.Promise.{KeepsPromise};
 use crate::make::make_program;
 use crate::report::{out_of_memory, said};
 use crate::run::run_program;
+use build_meaning::laws::meaning_law;
 use build_workers::Gate;
 use command_line::{Command, command};
 use elm_files::{Files, Sink};
@@ -24,7 +25,8 @@ usage: elmc gen COUNT SEED [--jobs=N]
 ";
 
 /// Runs the command that `words` ask for over `files`. The first word is the name of the program. What the command
-/// prints goes to `out`, and why it is refused to `err`. `gate` stands around each compile.
+/// prints goes to `out`, and why it is refused to `err`. `gate` stands around the
+/// compile of a build.
 ///
 /// Returns the exit status of the process: 0 if the command is done; 1 if it is refused, or if a run ended before every
 /// input was given; 2 if the words are not a command; 3 if a call on a file or a sink failed; 4 if memory ran out. The
@@ -48,6 +50,7 @@ pub fn top<R: Threads + Wait + Sync, F: Files, O: Sink, E: Sink, G: Gate + Sync>
         (outside F.Files O.Sink E.Sink files.old out.old err.old)
         (outside F.Files O.Sink E.Sink files.new out.new err.new) }
 {
+    meaning_law();
     let Ok(asked) = command(alloc, words) else {
         return out_of_memory(err);
     };

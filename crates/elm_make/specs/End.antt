@@ -1,47 +1,63 @@
 -- What a build leaves and reports, with an outcome or without one.
-use Rattle.std.specs.Prelude.{◌≡◌, ◌<◌, ℕ, List, Option, IfOk, IfSome, Result, Ok, Err}
+use Rattle.std.specs.Prelude.{◌≡◌, ◌<◌, ℕ, List, length, Option, IfOk, IfSome, Result, Ok, Err}
 use Rattle.elm_files.specs.declared.outside.FileError.{FileError}
 use Rattle.elm_files.specs.declared.outside.FileError.TheVariants.{Failed}
 use Rattle.elm_files.specs.declared.outside.FileError.TheVariants as no_memory
 use Rattle.elm_files.specs.States.{FilesState}
 use Rattle.elm_files.specs.Tree.{Tree, with_file, SameElsewhere}
+use Rattle.project_build.specs.Outcomes.{Outcome, Stopped, Faulty, Text, fault_lines, compiled_line}
+use Rattle.elm_make.specs.Counts.{Counts}
+use Rattle.elm_make.specs.View.{outcome_view}
 use Rattle.elm_make.specs.declared.project.Built.{Built}
 use Rattle.elm_make.specs.declared.project.BuildEnd.{BuildEnd}
 use Rattle.elm_make.specs.declared.project.BuildEnd.TheVariants.{File, NoMemory}
-use Rattle.elm_make.specs.BuildsTo.{Outcome, Stopped, Faulty, Text, compiled_line, modules_of}
-use Rattle.elm_make.specs.View.{built_view}
 
--- the outcome is one by R, and there is no other
-pub record IsOnly (R : Outcome → Type 0) (outcome : Outcome) : Type 0 where
-  pub holds : R outcome
-  pub only : (other : Outcome) → R other → other ≡ outcome
+-- R holds of this one, and of no other
+pub record IsOnly {X : Type 0} (R : X → Type 0) (x : X) : Type 0 where
+  pub holds : R x
+  pub only : (other : X) → R other → other ≡ x
 
--- a build that was done has the one outcome that R gives for the files, if they tell what they hold
+-- ---- with an outcome
+
+-- the outcome is the one that R gives for the files, if they tell what they hold
 abbrev pub HasOutcome : Option Tree → (Tree → Outcome → Type 0) → Result Built BuildEnd → Type 0
-HasOutcome told R result = IfOk result (λ built. IfSome told (λ tree. IsOnly (R tree) (built_view built)))
+HasOutcome told R result = IfOk result (λ built. IfSome told (λ tree. IsOnly (R tree) (outcome_view built.outcome)))
+
+-- the modules that were compiled are counted
+abbrev pub HasCount : Option Tree → List ℕ → Result Built BuildEnd → Type 0
+HasCount told entry result =
+    IfOk result (λ built. IfSome told (λ tree. IsOnly (Counts tree entry (outcome_view built.outcome)) built.modules))
 
 -- if there is a text, the file at this path holds it, and nothing else changed; otherwise nothing changed
 abbrev pub Leaves : List ℕ → Outcome → Option Tree → Option Tree → Type 0
 Leaves path (Text text) old new = new ≡ with_file old path text
-Leaves path (Stopped lines) old new = new ≡ old
-Leaves path (Faulty lines) old new = new ≡ old
+Leaves path (Stopped faults) old new = new ≡ old
+Leaves path (Faulty faults) old new = new ≡ old
 
--- the lines that are printed for a text
-abbrev pub SaysDone : Outcome → List ℕ → List ℕ → Type 0
-SaysDone (Text text) lines wanted = lines ≡ wanted
-SaysDone (Stopped told) lines wanted = Unit {0}
-SaysDone (Faulty told) lines wanted = Unit {0}
+-- what is printed: that the text is written, or the faults
+abbrev pub lines_of : List ℕ → ℕ → Outcome → List ℕ
+lines_of path n (Text text) = compiled_line path n
+lines_of path n (Stopped faults) = fault_lines faults
+lines_of path n (Faulty faults) = fault_lines faults
+
+-- a text has fewer than 2 to the 32nd bytes
+abbrev pub IsShort : Outcome → Type 0
+IsShort (Text text) = length text < 4294967296
+IsShort (Stopped faults) = Unit {0}
+IsShort (Faulty faults) = Unit {0}
 
 -- a build that was done, with its output at this path
 pub record IsDone (path : List ℕ) (built : Built) (old new : FilesState) : Type 0 where
   -- the output holds the text, if there is one, and nothing else changed
-  pub leaves : Leaves path (built_view built) old.tree new.tree
-  -- the line that is printed for a text says that it is written
-  pub says : SaysDone (built_view built) built.lines.items (compiled_line path)
-  -- the modules of the project are counted
-  pub counts : built.modules ≡ modules_of (built_view built)
+  pub leaves : Leaves path (outcome_view built.outcome) old.tree new.tree
+  -- the lines say what the outcome is
+  pub says : built.lines.items ≡ lines_of path built.modules (outcome_view built.outcome)
+  -- no text that is too long is written: memory runs out there
+  pub short : IsShort (outcome_view built.outcome)
   -- no call failed
   pub no_fault : new.faults ≡ old.faults
+
+-- ---- without one
 
 -- a path is reported only if its count of failures rose
 abbrev pub HasCause : BuildEnd → (List ℕ → ℕ) → (List ℕ → ℕ) → Type 0

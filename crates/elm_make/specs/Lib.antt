@@ -1,5 +1,8 @@
-pub mod Paths
-pub mod BuildsTo
+-- how many modules a build compiles
+pub mod Counts
+-- the outcome of a build of the code
 pub mod View
+-- what a build leaves and reports
 pub mod End
-pub mod Translated
+-- the steps of a build
+pub mod Steps

@@ -1,44 +1,61 @@
 //! One build of a project.
 
-ghost use Rattle.std.specs.Prelude.{◌≡◌, ◌≤◌, ℕ, List, IfOk, IfErr, length};
+ghost use Rattle.std.specs.Prelude.{◌≡◌, ◌∷◌, [], ℕ, List, Some, length, map, codes, IfOk, IfSome};
+ghost use Rattle.std.specs.List.{All};
+ghost use Rattle.core_modules.specs.Library as core;
 ghost use Rattle.elm_files.specs.Answers.{NoneFull};
 ghost use Rattle.elm_files.specs.States.{files_state};
-ghost use Rattle.elm_lexer.specs.Tokens.{Token as PlainToken};
-ghost use Rattle.elm_lexer.specs.View.{fault_view, IfFault};
-ghost use Rattle.elm_tree.specs.Tree.{Module as PlainModule};
-ghost use Rattle.elm_parser.specs.Parsed.{IsText};
-ghost use Rattle.elm_make.specs.BuildsTo as plain;
-ghost use Rattle.elm_make.specs.BuildsTo.{BuildsTo, IsBuiltFrom, IsFoldOf, modules_of, one_source};
-ghost use Rattle.elm_make.specs.BuildsTo.{line_of, start_line};
-ghost use Rattle.elm_make.specs.End.{HasOutcome, IsBuilt, IsEndAt, IsFailureTold, IsOnly};
-ghost use Rattle.elm_make.specs.Paths.{normal_path};
-ghost use Rattle.elm_make.specs.View.{built_view};
+ghost use Rattle.import_graph.specs.Order.{IsOrder};
+ghost use Rattle.module_files.specs.Entries.{NamesEntry};
+ghost use Rattle.module_graph.specs.Graph.{AreNumbered, names_of, uses_of};
+ghost use Rattle.module_graph.specs.View.{graph_modules};
+ghost use Rattle.module_walk.specs.Entry.{HasEntry};
+ghost use Rattle.module_walk.specs.Plain.{IsPlain};
+ghost use Rattle.module_walk.specs.View.{module_view, setting};
+ghost use Rattle.project_build.specs.Modules.{AreCoreModules, core_names, parts_of};
+ghost use Rattle.project_build.specs.Outcomes as plain;
+ghost use Rattle.project_build.specs.Outcomes.{Clean, ProjectBuilds, ToldBuilds, Builds, IsCompiled};
+ghost use Rattle.project_file.specs.Paths.{normal_path};
+ghost use Rattle.project_file.specs.Project.{project_of};
+ghost use Rattle.project_file.specs.View.{directories_of};
+ghost use Rattle.elm_make.specs.End.{HasOutcome, HasCount, IsBuilt, IsEndAt, IsFailureTold};
+ghost use Rattle.elm_make.specs.Steps.{Holds, IsTold, IsStopped, IsFaulty};
+ghost use Rattle.elm_make.specs.View.{outcome_view};
 
-use crate::lines::{compiled, refusal, start_fault};
-use crate::paths::{is_absolute, is_entry, is_output, normal};
+use crate::laws::count_law;
+use crate::lines::{compiled, fault_lines, start_fault};
+use build_once::laws::outcome_law;
 use build_workers::Gate;
 use elm_base::fault::{Code, Fault};
 use elm_base::text::Text;
 use elm_files::{FileError, Files, Got};
-use elm_lexer::{TextError, TextFault};
-use elm_parser::parse_text;
-use first_compile::{Made, compile};
-use first_emit::emit::emit;
-use js_printer::print;
-use std::alloc::{AllocError, AllocFailed, Global};
+use module_graph::{CrawlEnd, Graph, crawl};
+use module_heads::Heads;
+use project_compile::compile;
+use project_file::paths::{is_absolute, normal};
+use project_file::project::{Project, ProjectError, read};
+use project_outcome::Finished;
+use project_parts::{Library, core_library};
+use std::alloc::{AllocError, Global};
 use std::sync::Wait;
 use std::thread::Threads;
 
-/// The most bytes that the text of a module may have.
-const MAX_TEXT: u64 = 4_194_304;
+/// The file of the project.
+const PROJECT: &str = "elm.json";
+
+/// The most bytes that the file of the project may have.
+const MAX_PROJECT: u64 = 1_048_576;
+
+/// The most bytes that the text of a program may have.
+const MAX_OUTPUT: usize = 4_294_967_295;
 
 /// The outcome of a build.
 #[derive(Drop)]
 pub enum Outcome {
     /// The build stopped before any module was compiled, for these faults of the words or of the project.
     Stopped(Vec<Fault>),
-    /// Modules have these faults.
-    Faults(Vec<Fault>),
+    /// Modules or their link have these faults.
+    Faulty(Vec<Fault>),
     /// The text of the program, which the output file holds now.
     Text(Vec<u8>),
 }
@@ -47,7 +64,7 @@ pub enum Outcome {
 #[derive(Drop)]
 pub struct Built {
     pub outcome: Outcome,
-    /// The number of modules of the project, or 0 if the build stopped.
+    /// The number of modules of the project that were compiled: 0 if the build stopped before.
     pub modules: u32,
     /// What is printed: on standard output if there is a text, otherwise on standard error.
     pub lines: Vec<u8>,
@@ -58,7 +75,7 @@ pub struct Built {
 pub enum BuildEnd {
     /// A call on the file of this path failed.
     File(Text),
-    /// Memory ran out.
+    /// Memory ran out. It does for a text of a program of 2^32 bytes or more, too.
     NoMemory,
 }
 
@@ -73,21 +90,10 @@ impl From<AllocError> for BuildEnd {
     }
 }
 
-impl<T: Drop> From<AllocFailed<T>> for BuildEnd {
-    ghost use Rattle.std.specs.Prelude.{◌≡◌};
-    ghost use Rattle.elm_make.specs.declared.project.BuildEnd.TheVariants.{NoMemory};
-
-    ghost from_gives = { λ _ e. e ≡ NoMemory };
-
-    fn from(_error: AllocFailed<T>) -> BuildEnd {
-        BuildEnd::NoMemory
-    }
-}
-
-/// Builds the project of the module at `entry` (a path below the folder of `files`), and writes the text of its
-/// program to the path `output`. A refused build writes nothing.
+/// Builds the project of the module at `entry`, and writes the text of its program to the path `output`. Both paths are
+/// below the folder of `files`, which holds `elm.json`. A refused build writes nothing.
 ///
-/// `jobs` is the number of workers, 1 to 64, and does nothing yet. `gate` stands around each compile.
+/// `jobs` is the number of workers, 1 to 64, and does nothing yet. `gate` stands around the compile of all modules.
 pub fn build<R: Threads + Wait + Sync, F: Files, G: Gate + Sync>(
     _rt: &R,
     alloc: Global,
@@ -100,9 +106,28 @@ pub fn build<R: Threads + Wait + Sync, F: Files, G: Gate + Sync>(
     requires { NoneFull (F.faults files.old) }
 
     // The outcome is the one that the definition gives, and no other is.
-    ensures outcome { HasOutcome (F.tree files.old) (λ tree. BuildsTo tree entry.now output.now) result }
+    ensures outcome { HasOutcome (F.tree files.old) (λ tree. Clean tree entry.now output.now) result }
+    ensures count { HasCount (F.tree files.old) entry.now result }
 
     // What the build leaves and reports, with an outcome or without one.
+    ensures built { IsBuilt (normal_path output.now) result
+        (files_state F.Files files.old) (files_state F.Files files.new) }
+{
+    outcome_law();
+    count_law();
+    build_checked(alloc, files, gate, entry, output)
+}
+
+/// Checks the path of the output, and builds the project of the entry.
+fn build_checked<F: Files, G: Gate>(
+    alloc: Global,
+    files: &mut F,
+    gate: &G,
+    entry: &str,
+    output: &str,
+) -> Result<Built, BuildEnd>
+    requires { NoneFull (F.faults files.old) }
+    ensures outcome { Holds (F.tree files.old) entry.now (λ tree. Clean tree entry.now output.now) result }
     ensures built { IsBuilt (normal_path output.now) result
         (files_state F.Files files.old) (files_state F.Files files.new) }
 {
@@ -113,112 +138,153 @@ pub fn build<R: Threads + Wait + Sync, F: Files, G: Gate + Sync>(
     if !is_output(&file) {
         return Ok(stopped(alloc, Code::BadOutput, &file)?);
     }
-    let source = normal(alloc, entry)?;
-    if is_absolute(entry) {
-        return Ok(stopped(alloc, Code::EntryNotFound, entry)?);
-    }
-    if !is_entry(&source) {
-        return Ok(stopped(alloc, Code::EntryNotFound, &source)?);
-    }
-    build_entry(alloc, files, gate, &source, &file)
+    build_project(alloc, files, gate, entry, &file)
 }
 
-/// Reads the module at `source`, compiles it, and writes its program to `file`.
-fn build_entry<F: Files, G: Gate>(
+/// Whether a relative path may be written to as an output: it ends in `.js`.
+fn is_output(path: &str) -> bool
+    ensures { result ≡ plain.is_output path.now }
+{
+    path.as_bytes().ends_with(b".js")
+}
+
+/// Reads the file of the project, and builds the project of the entry into `file`.
+fn build_project<F: Files, G: Gate>(
     alloc: Global,
     files: &mut F,
     gate: &G,
-    source: &str,
+    entry: &str,
     file: &str,
 ) -> Result<Built, BuildEnd>
     requires { NoneFull (F.faults files.old) }
-    ensures outcome { HasOutcome (F.tree files.old) (λ tree. IsBuiltFrom (tree source.now) source.now) result }
+    ensures outcome { Holds (F.tree files.old) entry.now
+        (λ tree. ProjectBuilds tree entry.now (tree (codes "elm.json"))) result }
     ensures built { IsBuilt file.now result (files_state F.Files files.old) (files_state F.Files files.new) }
 {
-    let path = Text::copy(alloc, source.as_bytes())?;
-    match files.read(source, MAX_TEXT) {
-        Ok(Got::Bytes(text)) => build_text(alloc, files, gate, source, &text, file),
-        Ok(Got::TooLong) => Ok(refused(alloc, source, start_fault(Code::FileTooLarge))?),
-        Ok(Got::Absent) => Ok(stopped(alloc, Code::EntryNotFound, source)?),
+    let path = Text::copy(alloc, PROJECT.as_bytes())?;
+    match files.read(PROJECT, MAX_PROJECT) {
+        Ok(Got::Bytes(bytes)) => build_told(alloc, files, gate, &bytes, entry, file),
+        Ok(Got::TooLong) => Ok(stopped(alloc, Code::NotJson, PROJECT)?),
+        Ok(Got::Absent) => Ok(stopped(alloc, Code::ProjectMissing, PROJECT)?),
         Err(error) => Err(failed(error, path)),
     }
 }
 
-/// Compiles the text of the module at `source`, and writes its program to `file`.
-fn build_text<F: Files, G: Gate>(
+/// Builds the project that a file `elm.json` of these bytes describes.
+fn build_told<F: Files, G: Gate>(
     alloc: Global,
     files: &mut F,
     gate: &G,
-    source: &str,
-    text: &[u8],
+    bytes: &[u8],
+    entry: &str,
     file: &str,
 ) -> Result<Built, BuildEnd>
-    requires short { length text.now ≤ 4194304 }
     requires none_full { NoneFull (F.faults files.old) }
-    ensures outcome { IfOk result (λ built. IsOnly (IsFoldOf (one_source source.now text.now)) (built_view built)) }
+    requires there { IfSome (F.tree files.old) (λ tree. tree (codes "elm.json") ≡ Some bytes.now) }
+    ensures outcome { Holds (F.tree files.old) entry.now
+        (λ tree. ToldBuilds tree entry.now (project_of bytes.now)) result }
     ensures built { IsBuilt file.now result (files_state F.Files files.old) (files_state F.Files files.new) }
 {
-    gate.before(0, 0);
-    let program = program_text(alloc, text);
-    gate.after(0, 0);
-    match program {
-        Ok(program) => write_text(alloc, files, program, file),
+    match read(alloc, bytes) {
+        Ok(project) => build_modules(alloc, files, gate, &project, entry, file),
         Err(error) => match error {
-            TextError::NoMemory => Err(BuildEnd::NoMemory),
-            TextError::Fault(fault) => Ok(refused(alloc, source, fault)?),
+            ProjectError::Fault(code) => Ok(stopped(alloc, code, PROJECT)?),
+            ProjectError::NoMemory => Err(BuildEnd::NoMemory),
         },
     }
 }
 
-/// The text of the program of a module. The error is the fault for which the module is refused, or out of memory.
-fn program_text<'a>(alloc: Global, text: &'a [u8]) -> Result<Vec<u8>, TextError<'a>>
-    requires { length text.now ≤ 4194304 }
-    ensures text { IfOk result (λ program. (path : List ℕ) →
-        IsOnly (IsFoldOf (one_source path text.entry.now)) (plain.Text program.items)) }
-    ensures fault { IfErr result (λ e. IfFault e (λ f. (path : List ℕ) →
-        IsOnly (IsFoldOf (one_source path text.entry.now)) (plain.Faulty (line_of path f)))) }
+/// Finds the modules of a project, and builds them.
+fn build_modules<F: Files, G: Gate>(
+    alloc: Global,
+    files: &mut F,
+    gate: &G,
+    project: &Project,
+    entry: &str,
+    file: &str,
+) -> Result<Built, BuildEnd>
+    requires none_full { NoneFull (F.faults files.old) }
+    requires told { IfSome (F.tree files.old) (IsTold project.now) }
+    ensures outcome { Holds (F.tree files.old) entry.now
+        (λ tree. Builds (setting tree project.now core_names) entry.now) result }
+    ensures built { IsBuilt file.now result (files_state F.Files files.old) (files_state F.Files files.new) }
 {
-    match parse_text(alloc, text) {
-        Ok(_parsed) => compiled_text(alloc, text),
-        Err(error) => Err(error),
+    let library = core_library(alloc)?;
+    match crawl(alloc, &Heads, files, project, &library.names, entry) {
+        Ok(graph) => build_graph(alloc, files, gate, &library, &graph, project, entry, file),
+        Err(end) => match end {
+            CrawlEnd::Refused(fault) => Ok(stopped_by(alloc, fault)?),
+            CrawlEnd::File(path) => Err(BuildEnd::File(path)),
+            CrawlEnd::NoMemory => Err(BuildEnd::NoMemory),
+        },
     }
 }
 
-/// The same of a text without a fault of syntax.
-fn compiled_text<'a>(alloc: Global, text: &'a [u8]) -> Result<Vec<u8>, TextError<'a>>
-    requires short { length text.now ≤ 4194304 }
-    requires read { (ts : List PlainToken) × (m : PlainModule) × IsText text.now ts m }
-    ensures text { IfOk result (λ program. (path : List ℕ) →
-        IsOnly (IsFoldOf (one_source path text.entry.now)) (plain.Text program.items)) }
-    ensures fault { IfErr result (λ e. IfFault e (λ f. (path : List ℕ) →
-        IsOnly (IsFoldOf (one_source path text.entry.now)) (plain.Faulty (line_of path f)))) }
+/// Compiles the modules of a project after those of the core library, and writes their program to `file`.
+fn build_graph<F: Files, G: Gate>(
+    alloc: Global,
+    files: &mut F,
+    gate: &G,
+    library: &Library,
+    graph: &Graph,
+    project: &Project,
+    entry: &str,
+    file: &str,
+) -> Result<Built, BuildEnd>
+    requires none_full { NoneFull (F.faults files.old) }
+    requires core { AreCoreModules [] core.core_library (map module_view library.now.modules.items) }
+    requires plain { All (IsPlain core_names) (graph_modules graph.now) }
+    requires numbered { AreNumbered (graph_modules graph.now) }
+    requires order { IsOrder (uses_of (graph_modules graph.now)) [] graph.now.order.items }
+    requires entry { HasEntry (directories_of project.now) entry.now (names_of (graph_modules graph.now)) }
+    ensures outcome { IfOk result (λ built. (name : List ℕ)
+        → NamesEntry (normal_path entry.now) (directories_of project.now) name
+        → IsCompiled (parts_of (map module_view library.now.modules.items) (graph_modules graph.now)
+        graph.now.order.items) name (outcome_view built.outcome)) }
+    ensures count { IfOk result (λ built. built.modules ≡ length (graph_modules graph.now)) }
+    ensures built { IsBuilt file.now result (files_state F.Files files.old) (files_state F.Files files.new) }
 {
-    match compile(alloc, text)? {
-        Made::Good(project) => {
-            let trees = emit(alloc, &project)?;
-            Ok(print(alloc, &trees)?)
-        }
-        Made::NotYet => Err(TextError::Fault(start_fault(Code::NotYet))),
+    let modules = count(graph);
+    gate.before(0, 0);
+    let finished = compile(alloc, library, graph, &project.directories, entry);
+    gate.after(0, 0);
+    let finished = finished?;
+    match finished {
+        Finished::Text(text) => write_text(alloc, files, text, modules, file),
+        Finished::Faulty(faults) => Ok(faulty(alloc, faults, modules)?),
     }
 }
 
-/// Writes the text of a program to `file`.
+/// How many modules a project has.
+fn count(graph: &Graph) -> u32
+    requires { AreNumbered (graph_modules graph.now) }
+    ensures { result ≡ length (graph_modules graph.now) }
+{
+    graph.modules.len() as u32
+}
+
+/// Writes the text of the program of so many modules to `file`. Memory runs out for a text that is too long.
 fn write_text<F: Files>(
     alloc: Global,
     files: &mut F,
-    program: Vec<u8>,
+    text: Vec<u8>,
+    modules: u32,
     file: &str,
 ) -> Result<Built, BuildEnd>
     requires { NoneFull (F.faults files.old) }
-    ensures text { IfOk result (λ built. built_view built ≡ plain.Text program.items) }
+    ensures text { IfOk result (λ built. outcome_view built.outcome ≡ plain.Text text.items) }
+    ensures count { IfOk result (λ built. built.modules ≡ modules) }
     ensures built { IsBuilt file.now result (files_state F.Files files.old) (files_state F.Files files.new) }
 {
-    let lines = compiled(alloc, file)?;
+    if text.len() > MAX_OUTPUT {
+        return Err(BuildEnd::NoMemory);
+    }
+    let lines = compiled(alloc, file, modules)?;
     let path = Text::copy(alloc, file.as_bytes())?;
-    match files.write(file, &program) {
+    match files.write(file, &text) {
         Ok(()) => Ok(Built {
-            outcome: Outcome::Text(program),
-            modules: 1,
+            outcome: Outcome::Text(text),
+            modules,
             lines,
         }),
         Err(error) => Err(failed(error, path)),
@@ -236,14 +302,21 @@ fn failed(error: FileError, path: Text) -> BuildEnd
     }
 }
 
-/// A build that stopped for a fault in the file at `path`.
+/// A build that stopped for a fault without detail at the start of the file at `path`.
 fn stopped(alloc: Global, code: Code, path: &str) -> Result<Built, AllocError>
-    ensures outcome { IfOk result (λ built. built_view built ≡ plain.Stopped (start_line code path.now)) }
-    ensures counts { IfOk result (λ built. built.modules ≡ modules_of (built_view built)) }
+    ensures { IfOk result (IsStopped (plain.start_fault code path.now ∷ [])) }
 {
-    let (fault, lines) = refusal(alloc, start_fault(code), path)?;
+    let fault = start_fault(alloc, code, path)?;
+    stopped_by(alloc, fault)
+}
+
+/// A build that stopped for a fault.
+fn stopped_by(alloc: Global, fault: Fault) -> Result<Built, AllocError>
+    ensures { IfOk result (IsStopped (fault ∷ [])) }
+{
     let mut faults = Vec::new(alloc);
     faults.push(fault)?;
+    let lines = fault_lines(alloc, &faults)?;
     Ok(Built {
         outcome: Outcome::Stopped(faults),
         modules: 0,
@@ -251,18 +324,14 @@ fn stopped(alloc: Global, code: Code, path: &str) -> Result<Built, AllocError>
     })
 }
 
-/// A build of a project whose one module, at `path`, is refused for this fault.
-fn refused(alloc: Global, path: &str, fault: TextFault<'_>) -> Result<Built, AllocError>
-    ensures outcome { IfOk result (λ built.
-        built_view built ≡ plain.Faulty (line_of path.now (fault_view fault.entry))) }
-    ensures counts { IfOk result (λ built. built.modules ≡ modules_of (built_view built)) }
+/// A build of so many modules that have faults.
+fn faulty(alloc: Global, faults: Vec<Fault>, modules: u32) -> Result<Built, AllocError>
+    ensures { IfOk result (IsFaulty faults.items modules) }
 {
-    let (fault, lines) = refusal(alloc, fault, path)?;
-    let mut faults = Vec::new(alloc);
-    faults.push(fault)?;
+    let lines = fault_lines(alloc, &faults)?;
     Ok(Built {
-        outcome: Outcome::Faults(faults),
-        modules: 1,
+        outcome: Outcome::Faulty(faults),
+        modules,
         lines,
     })
 }

@@ -7,7 +7,7 @@ use Rattle.commands.specs.declared.program.TheConstants.{USAGE}
 use Rattle.commands.specs.Outside.{outside}
 use Rattle.commands.specs.Promise.{KeepsPromise}
 use Rattle.commands.proofs.Kept.{at_memory, by_saying, unchanged}
-use Rattle.commands.proofs.Settled.{nothing_settled}
+use Rattle.commands.proofs.Settled.{nothing_settled, means}
 use Rattle.commands.proofs.program.top.Goals as goal
 
 pub returns-in-Some-Make : goal.returns-in-Some-Make
@@ -36,7 +36,8 @@ returns-in-None g c =
     let old = outside g.F.Files g.O.Sink g.E.Sink c.args.files.now c.args.out.now c.args.err.now in
     let new = outside g.F.Files g.O.Sink g.E.Sink c.args.files.now c.args.out.now c.said.new.err in
     let none : command_line words ≡ None = sym (rw c.in-None.is at c.in-Ok.ensures) in
-    by_saying (command_line words) old new 2 USAGE.now (omega arith)
+    by_saying (command_line words) old new (means c.meaning_law.ensures (command_line words) old.files.tree) 2 USAGE.now
+    (omega arith) (omega arith)
     (nothing_settled (command_line words) old.files.tree none) refl refl refl refl c.said.result c.said.ensures
 
 pub returns-in_default : goal.returns-in_default
@@ -44,5 +45,6 @@ returns-in_default g c =
     let asked = command_line (map string_bytes c.args.words.now) in
     let old = outside g.F.Files g.O.Sink g.E.Sink c.args.files.now c.args.out.now c.args.err.now in
     let new = outside g.F.Files g.O.Sink g.E.Sink c.args.files.now c.args.out.now c.out_of_memory.new.err in
-    at_memory asked c.out_of_memory.result old new c.out_of_memory.ensures.status c.out_of_memory.ensures.told
+    at_memory asked c.out_of_memory.result old new (means c.meaning_law.ensures asked old.files.tree)
+    c.out_of_memory.ensures.status c.out_of_memory.ensures.told
     refl refl (inl refl) (unchanged asked old.files.tree new.files.tree refl) (inl refl)

@@ -38,7 +38,7 @@ returns-in-Err-File g c =
     let old = outside g.F.Files g.O.Sink g.E.Sink c.args.files.now c.args.out.now c.args.err.now in
     let new = outside g.F.Files g.O.Sink g.E.Sink c.run.new.files c.run.new.out c.file_failed.new.err in
     let asked = Some (run c.args.program.now c.args.inputs.now c.args.fuel) in
-    by_file_failure asked old new c.in-Err-File.path c.file_failed.result c.file_failed.ensures.status
+    by_file_failure asked old new tt c.in-Err-File.path c.file_failed.result c.file_failed.ensures.status
     (subst (λ e. HasCause e old.files.faults new.files.faults old.out.faults new.out.faults) c.in-Err-File.field-0-is
     c.in-Err-File.ensures.cause)
     c.file_failed.ensures.told

@@ -1,7 +1,0 @@
-main : Program () () ()
-main =
-    Platform.worker
-        { init = \_ -> ( (), Cmd.none )
-        , update = \_ m -> ( m, Cmd.none )
-        , subscriptions = \_ -> Sub.none
-        }

@@ -1,5 +1,0 @@
-pub mod Tree
-pub mod View
-pub mod Values
-pub mod Eval
-pub mod Run

@@ -1,4 +1,0 @@
-pub mod Emit
-pub mod Literals
-pub mod Scoped
-pub mod Spelled

@@ -1,5 +1,0 @@
-pub mod Declared
-pub mod Chains
-pub mod Scopes
-pub mod Resolved
-pub mod Made

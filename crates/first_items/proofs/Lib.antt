@@ -1,9 +1,0 @@
-pub mod Forms
-pub mod Same
-pub mod Meanings
-pub mod Entries
-pub mod Headers
-pub mod Walk
-pub mod Arrows
-pub mod Several
-pub mod Modules

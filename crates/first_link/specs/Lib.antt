@@ -1,5 +1,0 @@
-pub mod Uses
-pub mod Marks
-pub mod Taken
-pub mod Program
-pub mod Entry

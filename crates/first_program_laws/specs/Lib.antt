@@ -1,5 +1,0 @@
-pub mod Items
-pub mod Link
-pub mod Checked
-pub mod Resolved
-pub mod View

@@ -1,9 +1,0 @@
-pub mod Values
-pub mod Fields
-pub mod Forms
-pub mod Calls
-pub mod Commands
-pub mod Programs
-pub mod Workers
-pub mod Records
-pub mod Instances

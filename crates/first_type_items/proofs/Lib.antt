@@ -1,4 +1,0 @@
-pub mod Scopes
-pub mod Typed
-pub mod Solved
-pub mod Once

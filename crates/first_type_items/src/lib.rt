@@ -1,4 +1,0 @@
-//! What the parts of an expression ask of their types.
-#![tactic(auto)]
-
-pub mod laws;

@@ -1,5 +1,0 @@
-use Rattle.std.proofs.Common.{◌≡◌, take, map}
-use Rattle.first_type_solver.proofs.build.make_record.Given as goal
-
-abbrev pub invariant-loop-field : goal.invariant-loop-field
-invariant-loop-field l = l.names.items ≡ map (λ f. f.name) (take l.field-index l.fields)
