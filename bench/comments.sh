@@ -12,6 +12,7 @@ room="$(mktemp -d)" || exit 1
 trap 'rm -rf "$room"' EXIT
 cd "$room" || exit 1
 mkdir src
+cp "$root/examples/answer/elm.json" .
 
 # Writes src/Main.elm, of so many bytes: a block comment, the program, and lines of 64 bytes.
 write_text() { # BYTES

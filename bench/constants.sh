@@ -7,6 +7,7 @@ root="$(cd "$(dirname "${BASH_SOURCE[0]}")/.." && pwd)"
 folder="$(mktemp -d)"
 trap 'rm -rf "$folder"' EXIT
 mkdir "$folder/src"
+cp "$root/examples/answer/elm.json" "$folder"
 cp "$root/examples/answer/src/Main.elm" "$folder/src/Main.elm"
 cd "$folder"
 "$root/elmc" make src/Main.elm --output=made.js >/dev/null

@@ -9,6 +9,7 @@ room="$(mktemp -d)" || exit 1
 trap 'rm -rf "$room"' EXIT
 cd "$room" || exit 1
 mkdir src
+cp "$root/examples/answer/elm.json" .
 
 # Writes src/Main.elm, which sends the argument and has the definitions of standard input.
 write_module() { # ARGUMENT

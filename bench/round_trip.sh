@@ -9,6 +9,7 @@ lines="${1:-330000}"
 folder="$(mktemp -d)"
 trap 'rm -rf "$folder"' EXIT
 mkdir "$folder/src"
+cp "$root/examples/answer/elm.json" "$folder"
 cp "$root/examples/answer/src/Main.elm" "$folder/src/Main.elm"
 cd "$folder"
 "$root/elmc" make src/Main.elm --output=made.js >/dev/null

@@ -17,9 +17,10 @@ const text = (w) => JSON.stringify(w, (k, v) => v !== null && typeof v === "obje
 const scope = {};
 const settle = () => new Promise((done) => setTimeout(done, 0));
 new vm.Script(readFileSync(js, "utf8")).runInNewContext(scope);
-const name = Object.keys(scope.Elm)[0];
+let entry = scope.Elm;
+while (!entry.init) entry = entry[Object.keys(entry)[0]];
 let app;
-try { app = scope.Elm[name].init({ flags: JSON.parse(lines[0]) }); } catch (e) {
+try { app = entry.init({ flags: JSON.parse(lines[0]) }); } catch (e) {
   console.log(e.message === "flags refused" ? "! refused flags" : "! crash " + text(e.message)); process.exit(1);
 }
 for (const [port, functions] of Object.entries(app.ports)) if (functions.subscribe) functions.subscribe((w) => console.log(port + " " + text(w)));

@@ -1,7 +1,8 @@
 #!/usr/bin/env bash
 # Times how fast the types of modules are inferred, on a stack of 8 MiB: a module of 10,000 and one of 20,000
 # definitions of three lines, where the second time should be about twice the first; chains of definitions without
-# annotations; a `case` of many branches; a record of many fields; uses of a name whose type is large; a `let` of many
+# annotations; a `case` of many branches; a record of many fields; accesses of many fields of an unknown record and of a
+# known one, where twice as many take four to five times as long; uses of a name whose type is large; a `let` of many
 # names; and types of 65,536 and 65,537 nodes, of which the second is refused. Prints the greatest memory and the time,
 # in which the modules are compiled whole, and those of the core library too: the first line says what an empty module
 # takes.
@@ -90,7 +91,7 @@ for count in 1000 2000; do
     infer "record_$count"
 done
 
-for count in 250 500; do
+for count in 500 1000; do
     begin "fields_$count"
     awk -v n="$count" 'BEGIN {
         printf "\nx r =\n    [ r.f0"
@@ -98,6 +99,18 @@ for count in 250 500; do
         print " ]"
     }' >>"fields_$count/src/Main.elm"
     infer "fields_$count"
+done
+
+for count in 500 1000; do
+    begin "known_fields_$count"
+    awk -v n="$count" 'BEGIN {
+        printf "\nx =\n    case { f0 = 0"
+        for (i = 1; i < n; i++) printf ", f%d = 0", i
+        printf " } of\n        r ->\n            [ r.f0"
+        for (i = 1; i < n; i++) printf ", r.f%d", i
+        print " ]"
+    }' >>"known_fields_$count/src/Main.elm"
+    infer "known_fields_$count"
 done
 
 for count in 1000 2000; do

@@ -1,6 +1,7 @@
-// Compares the lines that crates/command_cases expects of its worked programs with what node prints for the same
-// outputs: node worked.mjs. The programs are built by `elmc make`, and an output that is written by hand is taken as it
-// is. Each is run by run_in_node.mjs.
+// Compares the lines that the crates command_cases and build_cases expect of runs with what node prints for the same
+// outputs: node worked.mjs. Programs are built by `elmc make` (PROGRAM names an elmc that is built already), and an
+// output that is written by hand is taken as it is. Each is run by run_in_node.mjs. Runs that end unsafe or out of
+// fuel, and such as are refused, are left out, since node knows nothing of these.
 import { spawnSync } from "node:child_process";
 import { appendFileSync, mkdirSync, mkdtempSync, readFileSync, rmSync, writeFileSync } from "node:fs";
 import { tmpdir } from "node:os";
@@ -9,66 +10,78 @@ import { fileURLToPath } from "node:url";
 
 const bench = dirname(fileURLToPath(import.meta.url));
 const root = dirname(bench);
-const cases = join(root, "crates/command_cases");
-const linesOf = (path) => readFileSync(join(cases, path), "utf8").split("\n");
-
-// What the run of each case is to print, by the title of the case.
-const wanted = new Map();
-let title;
-let isRun = false;
-for (const line of linesOf("stdout")) {
-  if (line.startsWith("# ")) title = line;
-  if (/^[#$?] /.test(line)) isRun = line.startsWith("$ elmc run ");
-  if (isRun && line.startsWith("1|")) wanted.set(title, `${wanted.get(title) ?? ""}${line.slice(2)}\n`);
-}
-
+const program = process.env.PROGRAM ?? join(root, "elmc");
 const folder = mkdtempSync(join(tmpdir(), "worked"));
 let count = 0;
 let differing = 0;
 
-const call = (program, words) => spawnSync(program, words, { cwd: folder, encoding: "utf8" });
+const call = (name, words) => spawnSync(name, words, { cwd: folder, encoding: "utf8" });
 
-const compare = (words) => {
-  const { stdout } = call("node", [join(bench, "run_in_node.mjs"), ...words]);
+// What each command of a crate is to print on standard output, in order.
+const commandsOf = (crate) => {
+  const commands = [];
+  for (const line of readFileSync(join(root, "crates", crate, "stdout"), "utf8").split("\n")) {
+    if (line === "$" || line.startsWith("$ ")) commands.push({ line, out: "" });
+    else if (line.startsWith("1|")) commands[commands.length - 1].out += `${line.slice(2)}\n`;
+  }
+  return commands;
+};
+
+const compare = (title, words, wanted) => {
+  if (wanted === "" || /^! (unsafe|out of fuel|stuck)$/m.test(wanted)) return;
+  const { stdout } = call("node", ["--stack-size=60000", join(bench, "run_in_node.mjs"), ...words]);
   count += 1;
-  if (stdout === wanted.get(title)) return;
+  if (stdout === wanted) return;
   differing += 1;
-  console.error(`${title}: node prints\n${stdout}and the case expects\n${wanted.get(title)}`);
+  console.error(`${title}: node prints\n${stdout}and the case expects\n${wanted}`);
 };
 
-const command = ([, name, ...words]) => {
-  if (name === "run") return compare(words);
-  const made = call(join(root, "elmc"), [name, ...words]);
-  if (made.status !== 0) throw new Error(`${title}: elmc says ${made.stderr}`);
-};
-
-// The file that grows. The forms of the lines are those of crates/command_cases/src/main.rt.
-let path;
-const add = (text) => appendFileSync(path, text);
-const forms = {
-  "#": (line) => {
-    title = line;
-    rmSync(folder, { recursive: true });
-    mkdirSync(folder);
-  },
-  "+": (line) => {
-    path = join(folder, line.slice(2));
-    mkdirSync(dirname(path), { recursive: true });
-    writeFileSync(path, "");
-  },
-  "-": () => {},
-  "|": (line) => add(`${line.slice(1)}\n`),
-  ":": (line) => add(line.slice(1)),
-  "*": (line) => {
-    const space = line.indexOf(" ");
-    add(line.slice(space + 1).repeat(Number(line.slice(1, space))));
-  },
-  "<": (line) => add(readFileSync(join(cases, "data", line.slice(1)))),
-  "$": (line) => command(line.slice(2).split(" ")),
+const runScript = (crate, name, commands) => {
+  const data = join(root, "crates", crate, "data");
+  let title;
+  let path; // The file that grows.
+  const add = (text) => appendFileSync(path, text);
+  // The forms of the lines are those of crates/case_scripts/src/program.rt.
+  const forms = {
+    "#": (line) => {
+      title = `${crate} ${line}`;
+      rmSync(folder, { recursive: true });
+      mkdirSync(folder);
+    },
+    "+": (line) => {
+      path = join(folder, line.slice(2));
+      mkdirSync(dirname(path), { recursive: true });
+      writeFileSync(path, "");
+    },
+    "-": () => {},
+    "?": () => {},
+    "!": () => {},
+    "|": (line) => add(`${line.slice(1)}\n`),
+    ":": (line) => add(line.slice(1)),
+    "*": (line) => {
+      const space = line.indexOf(" ");
+      add(line.slice(space + 1).repeat(Number(line.slice(1, space))));
+    },
+    "<": (line) => add(readFileSync(join(data, line.slice(1)))),
+    "$": (line) => {
+      const command = commands.shift();
+      if (command.line !== line) throw new Error(`${title}: stdout has ${command.line} and not ${line}`);
+      const [, , verb, ...words] = line.split(" ");
+      // No engine's stack is as deep as those programs.
+      if (name === "deep.txt") return;
+      if (verb === "run") compare(title, words.filter((word) => !word.startsWith("--")), command.out);
+      else if (verb === "make") call(program, [verb, ...words]);
+    },
+  };
+  for (const line of readFileSync(join(data, name), "utf8").split("\n")) if (line !== "") forms[line[0]](line);
 };
 
 try {
-  for (const line of linesOf("data/worked.txt")) if (line !== "") forms[line[0]](line);
+  for (const crate of ["command_cases", "build_cases"]) {
+    const commands = commandsOf(crate);
+    const names = readFileSync(join(root, "crates", crate, "args"), "utf8").split("\n");
+    for (const name of names) if (name !== "") runScript(crate, name, commands);
+  }
 } finally {
   rmSync(folder, { recursive: true });
 }

@@ -10,17 +10,17 @@ same() { # WHAT WANTED SEEN
     fi
 }
 
-check() { # EXAMPLE LINE
+check() { # EXAMPLE MODULES LINES
     cd "$1" || exit 1
     rm -f out.js
     local line
     line="$(../../elmc make src/Main.elm --output=out.js)"
     same "$1: status of elmc" 0 "$?"
-    same "$1: output of elmc" "compiled to out.js, modules: 1" "$line"
+    same "$1: output of elmc" "compiled to out.js, modules: $2" "$line"
     if command -v node >/dev/null; then
         line="$(node run.js)"
         same "$1: status of node" 0 "$?"
-        same "$1: output of node" "$2" "$line"
+        same "$1: output of node" "$3" "$line"
         echo "examples/$1: built and run, as wanted"
     else
         echo "examples/$1: built, and not run: there is no node here"
@@ -28,6 +28,9 @@ check() { # EXAMPLE LINE
     cd ..
 }
 
-check answer "out 42"
-check parcel "price 810"
-check meter "reading 132"
+check answer 1 "out 42"
+check parcel 1 "price 810"
+check meter 1 "reading 132"
+check orders 2 'totals {"id":1,"cents":900}
+refused {"id":2,"reason":"coupon SPRING is used up"}
+totals {"id":3,"cents":360}'
