@@ -15,14 +15,14 @@ ghost use Rattle.project_build.specs.Modules as build;
 ghost use Rattle.project_build.specs.Modules.{AreCoreModules, core_names, Values};
 ghost use Rattle.project_build.specs.Outcomes.{IsCompiled, IsFinished, linked_parts};
 ghost use Rattle.project_file.specs.Paths.{normal_path};
-ghost use Rattle.project_outcome.specs.View.{outcome_of};
+ghost use Rattle.project_compile.specs.Outcome.{outcome_of};
 ghost use Rattle.project_parts.specs.Laws.{IsBuild};
 ghost use Rattle.project_parts.specs.View.{part_view};
 
 use crate::entry::entry_number;
+use crate::finishing::{Finished, finish};
+use crate::values::values_of;
 use module_graph::Graph;
-use project_make::values_of;
-use project_outcome::{Finished, finish};
 use project_parts::laws::{any_build_law, number_law};
 use project_parts::{Library, Part, parts_of};
 use std::alloc::{AllocError, Global};

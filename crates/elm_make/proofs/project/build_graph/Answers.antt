@@ -7,7 +7,7 @@ use Rattle.module_walk.specs.View.{module_view}
 use Rattle.project_build.specs.Modules.{parts_of}
 use Rattle.project_build.specs.Outcomes.{IsCompiled}
 use Rattle.project_file.specs.Paths.{normal_path}
-use Rattle.project_outcome.specs.View.{outcome_of}
+use Rattle.project_compile.specs.Outcome.{outcome_of}
 use Rattle.elm_make.proofs.project.build_graph.Goals as goal
 
 pub returns-in-Text-clause-outcome : goal.returns-in-Text-clause-outcome

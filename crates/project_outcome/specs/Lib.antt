@@ -1,2 +1,0 @@
--- what a finished build is
-pub mod View
