@@ -17,8 +17,9 @@ use Rattle.infer_order.specs.Order.{IsSimple, ordered}
 use Rattle.infer_parts.specs.Formed.{FormedGroups}
 use Rattle.infer_parts.specs.Steps.{CanWalk}
 use Rattle.infer.specs.Middle.{AnnotationsOnce, Starts}
-use Rattle.infer.specs.Modules.{CanInfer, root}
-use Rattle.infer.specs.Names.{AllTitled, EachOnce, groups_in, names_of}
+use Rattle.infer_modules.specs.Modules.{CanInfer, root}
+use Rattle.infer.specs.Names.{AllTitled, EachOnce, names_of}
+use Rattle.infer_modules.specs.Modules.{groups_in}
 use Rattle.infer.proofs.Grouping.{formed_once}
 use Rattle.infer.proofs.Proper.{all_defined, all_titled, proper_once, titled_simple}
 

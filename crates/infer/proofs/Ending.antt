@@ -39,7 +39,7 @@ use Rattle.infer_order.specs.Order.{ordered}
 use Rattle.infer_groups.specs.Defined.{Defined, DefinitionsStop}
 use Rattle.infer_groups.specs.Lets.{listed_names}
 use Rattle.infer_groups.proofs.Members.{take_none, take_all}
-use Rattle.infer.specs.Modules.{root}
+use Rattle.infer_modules.specs.Modules.{root}
 use Rattle.infer.specs.Names.{EachOnce, names_of}
 use Rattle.infer.specs.Told.{Typed}
 use Rattle.infer.specs.Middle.{HasTelling, NameIsTold, GroupHas, GroupsHave, Starts, Begun, Middle}

@@ -18,7 +18,8 @@ use Rattle.type_items.specs.Modules.{definitions_in}
 use Rattle.binding_groups.specs.InOrder.{ordered_groups}
 use Rattle.infer_order.specs.Order.{group_list, IsSimple, HasTitle, StandsAlone, Spots}
 use Rattle.infer_order.specs.Spots.{has_titles}
-use Rattle.infer.specs.Names.{EachOnce, names_of, AllTitled, groups_in}
+use Rattle.infer.specs.Names.{EachOnce, names_of, AllTitled}
+use Rattle.infer_modules.specs.Modules.{groups_in}
 use Rattle.infer.proofs.Refs.{ref_itself}
 use Rattle.infer.proofs.Once.{once_both}
 

@@ -40,14 +40,14 @@ use Rattle.infer_annotations.proofs.Topmost.{kept_is_scheme, kept_is_written}
 use Rattle.infer_order.specs.Order.{IsTitled}
 use Rattle.infer_groups.specs.Members.{AreNamed, GroupAt}
 use Rattle.infer_groups.proofs.Members.{take_one, take_count}
-use Rattle.infer.specs.Modules.{root}
+use Rattle.infer_modules.specs.Modules.{root}
 use Rattle.infer.specs.Names.{names_of}
 use Rattle.infer.specs.Told.{Typed, NamesTold, IsToldAs, GroupIsTold, written_types}
 use Rattle.infer.specs.Middle.{GroupHas, GroupsHave, Middle}
 use Rattle.infer.proofs.Lists.{cut, enumerated, mapped, map_append}
 use Rattle.infer.proofs.Keeping.{groups_still, group_still}
 use Rattle.infer.proofs.Reading.{tellings_of, all_told, all_have, names_same, all_written}
-use Rattle.infer.proofs.Written.{written_renamed}
+use Rattle.infer_modules.proofs.Written.{written_renamed}
 
 -- ---- definitions with titles
 

@@ -1,5 +1,4 @@
 pub mod Types
 pub mod Names
-pub mod Modules
 pub mod Told
 pub mod Middle

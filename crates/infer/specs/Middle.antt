@@ -21,7 +21,7 @@ use Rattle.infer_base.specs.Codes.{Code, State}
 use Rattle.infer_base.specs.Means.{Setting}
 use Rattle.infer_base.specs.Ready.{IsWritten}
 use Rattle.infer_declared.specs.Titles.{AnnotationOnce}
-use Rattle.infer.specs.Modules.{root}
+use Rattle.infer_modules.specs.Modules.{root}
 use Rattle.infer.specs.Names.{names_of}
 use Rattle.infer.specs.Told.{Typed}
 

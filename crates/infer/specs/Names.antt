@@ -2,7 +2,7 @@
 use Rattle.std.specs.Prelude.{◌≡◌, ℕ, List, [], ◌∷◌, true, flat_map, slice_get}
 use Rattle.std.specs.List.{Contains}
 use Rattle.elm_canon.specs.declared.reference.Ref.{Ref}
-use Rattle.elm_canon.specs.Tree.{Group, Declaration, Given, Define}
+use Rattle.elm_canon.specs.Tree.{Group}
 use Rattle.type_items.specs.Definitions.{Definition}
 use Rattle.infer_order.specs.Spots.{has_titles}
 
@@ -17,8 +17,3 @@ names_of ds = flat_map (λ d. d.names) ds
 -- no group is a pattern with its value
 pub record AllTitled (gs : List Group) : Type 0 where
   pub each : (i : ℕ) → has_titles (slice_get gs i) ≡ true
-
--- the group that a declaration defines, if it does
-abbrev pub groups_in : Declaration → List Group
-groups_in (Given x known) = []
-groups_in (Define g) = g ∷ []

@@ -1,5 +1,5 @@
 -- The types of the names that a module defines, as the program has them.
-use Rattle.std.specs.Prelude.{◌≡◌, Option, Some, option_map}
+use Rattle.std.specs.Prelude.{Option, option_map}
 use Rattle.indexmap.specs.IndexMap.{get}
 use Rattle.elm_canon.specs.Names.{same_name}
 use Rattle.elm_canon.specs.declared.reference.Ref.{Ref}
@@ -7,14 +7,8 @@ use Rattle.elm_canon.specs.declared.reference.Ref.TheVariants.{Local, Top}
 use Rattle.elm_type.specs.Types.{Scheme}
 use Rattle.elm_type.specs.View.{scheme_view}
 use Rattle.infer_base.specs.Keys.{same_pair}
-use Rattle.infer_base.specs.Ready.{IsWritten}
-use Rattle.type_items.specs.Inferred.{Schemes}
 use Rattle.infer.specs.declared.types.Types.{Types}
 
 unfoldable pub schemes_of : Types → Ref → Option Scheme
 schemes_of types (Local x) = option_map scheme_view (get same_name types.locals x)
 schemes_of types (Top m x) = option_map scheme_view (get same_pair types.tops (m, x))
-
--- they have no constants and can be written into a store: where other modules use these names, inference knows them
-abbrev pub SchemesWritten : Schemes → Type 0
-SchemesWritten schemes = (x : Ref) (s : Scheme) → schemes x ≡ Some s → IsWritten s.kinds s

@@ -22,7 +22,7 @@ ghost use Rattle.infer_order.specs.Order.{IsOrder, IsSimple, ordered};
 ghost use Rattle.infer_parts.specs.Formed.{FormedGroups};
 ghost use Rattle.infer_parts.specs.Steps.{CanWalk};
 ghost use Rattle.infer.specs.Middle.{AnnotationsOnce, Begun, Middle, Starts};
-ghost use Rattle.infer.specs.Modules.{root};
+ghost use Rattle.infer_modules.specs.Modules.{root};
 ghost use Rattle.infer.specs.Names.{AllTitled};
 ghost use Rattle.infer.specs.Told.{GroupIsTold, told_views};
 

@@ -13,9 +13,10 @@ ghost use Rattle.infer_base.specs.Ready.{AreWritten};
 ghost use Rattle.infer_base.specs.View.{bad_view, here, known_view};
 ghost use Rattle.infer_faults.specs.declared.explain.Said.{Said as PlainSaid};
 ghost use Rattle.infer.specs.Middle.{StopsSomewhere};
-ghost use Rattle.infer.specs.Modules.{CanInfer, root};
+ghost use Rattle.infer_modules.specs.Modules.{CanInfer, root};
 ghost use Rattle.infer.specs.Told.{told_views};
-ghost use Rattle.infer.specs.Types.{schemes_of, SchemesWritten};
+ghost use Rattle.infer.specs.Types.{schemes_of};
+ghost use Rattle.infer_modules.specs.Modules.{SchemesWritten};
 ghost use Rattle.infer.specs.declared.infer.Stop.TheVariants as stop;
 
 use crate::declared::module_groups;

@@ -5,7 +5,7 @@ use Rattle.std.specs.List.{AllByRecursion}
 use Rattle.elm_canon.specs.Tree.{Declaration, Given, Define, groups_of}
 use Rattle.infer_parts.specs.Formed.{FormedGroups}
 use Rattle.infer_proper.specs.Formed.{FormedDeclaration}
-use Rattle.infer.specs.Names.{groups_in}
+use Rattle.infer_modules.specs.Modules.{groups_in}
 
 pub all_formed : (ds : List Declaration) → AllByRecursion FormedDeclaration ds
     → FormedGroups (groups_of (flat_map groups_in ds))

@@ -7,7 +7,7 @@ ghost use Rattle.elm_proper.specs.Proper.{Scope};
 ghost use Rattle.canon_module.specs.Resolve.{Setting, IsModule, module_faults};
 ghost use Rattle.module_proper.specs.Modules.{IsAround, AreRead};
 ghost use Rattle.port_proper.specs.Records.{ImportsHaveRecords};
-ghost use Rattle.infer.specs.Modules.{CanInfer};
+ghost use Rattle.infer_modules.specs.Modules.{CanInfer};
 
 use annotation_proper::laws as annotations;
 use infer_proper::laws as groups;

@@ -14,7 +14,7 @@ use Rattle.canon_sites.specs.Order.{IsInOrder}
 use Rattle.pattern_faults.specs.Faults as patterns
 use Rattle.type_items.specs.Inferred.{Schemes, Inferred, Refused}
 use Rattle.infer_base.specs.Ready.{IsBelow}
-use Rattle.infer.specs.Types.{SchemesWritten}
+use Rattle.infer_modules.specs.Modules.{SchemesWritten}
 use Rattle.module_offers.specs.Offers.{known_by, module_interface}
 use Rattle.module_made.specs.Around.{Around, home_of, setting_of}
 use Rattle.module_made.specs.Made.{Value, Bad, Made, mistyped, uncovered, fine, fault_in, type_finding, root, IsVariable}

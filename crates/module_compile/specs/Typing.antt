@@ -7,7 +7,8 @@ use Rattle.canon_module.specs.Resolve.{module_shows}
 use Rattle.core_functions.specs.Cores.{cores_of, without_cores}
 use Rattle.fragments.specs.Made.{fragment_of}
 use Rattle.type_items.specs.Inferred.{Schemes, Inferred, Refused}
-use Rattle.infer.specs.Types.{schemes_of, SchemesWritten}
+use Rattle.infer.specs.Types.{schemes_of}
+use Rattle.infer_modules.specs.Modules.{SchemesWritten}
 use Rattle.module_offers.specs.Offers.{known_by, main_type, module_interface}
 use Rattle.module_made.specs.Around.{Around, home_of, setting_of}
 use Rattle.module_made.specs.Made.{Value, Good, IsNamed, Made, root}

@@ -3,8 +3,9 @@
 ghost use Rattle.std.specs.Prelude.{◌≡◌, ◌≤◌, Some, IfOk, IfSome, length, option_map};
 ghost use Rattle.elm_canon.specs.View.{module_view};
 ghost use Rattle.canon_env.specs.Shown.{shown_view};
-ghost use Rattle.infer.specs.Modules.{CanInfer};
-ghost use Rattle.infer.specs.Types.{schemes_of, SchemesWritten};
+ghost use Rattle.infer_modules.specs.Modules.{CanInfer};
+ghost use Rattle.infer.specs.Types.{schemes_of};
+ghost use Rattle.infer_modules.specs.Modules.{SchemesWritten};
 ghost use Rattle.module_made.specs.Around.{home_of};
 ghost use Rattle.interface.specs.View.{interface_view};
 ghost use Rattle.type_items.specs.Inferred.{Inferred as IsInferred};

@@ -2,7 +2,7 @@
 
 ghost use Rattle.std.specs.Prelude.{IfOk};
 ghost use Rattle.elm_canon.specs.View.{module_view};
-ghost use Rattle.infer.specs.Modules.{CanInfer};
+ghost use Rattle.infer_modules.specs.Modules.{CanInfer};
 ghost use Rattle.module_phases.specs.View.{around_view};
 ghost use Rattle.module_compile.specs.Typing.{TellsTypes};
 

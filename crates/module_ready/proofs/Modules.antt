@@ -22,8 +22,8 @@ use Rattle.interface.specs.Interface.{in_order}
 use Rattle.type_items.specs.Modules.{union_makers, alias_makers, declared}
 use Rattle.type_items.specs.Inferred.{Schemes}
 use Rattle.infer_annotations.specs.Once.{FieldsOnce}
-use Rattle.infer.specs.Modules.{CanInfer}
-use Rattle.infer.specs.Types.{SchemesWritten}
+use Rattle.infer_modules.specs.Modules.{CanInfer}
+use Rattle.infer_modules.specs.Modules.{SchemesWritten}
 use Rattle.module_offers.specs.Offers.{module_interface}
 use Rattle.module_made.specs.Around.{Around, home_of, setting_of}
 use Rattle.module_made.specs.Made.{IsNamed}

@@ -19,7 +19,7 @@ use Rattle.type_items.specs.Modules.{Annotated, function_to, union_type, union_m
 use Rattle.type_items.specs.Inferred.{Schemes}
 use Rattle.infer_annotations.specs.Once.{FieldsOnce}
 use Rattle.infer_known.specs.Known.{Typed, as_scheme, OfferedWritten}
-use Rattle.infer.specs.Types.{SchemesWritten}
+use Rattle.infer_modules.specs.Modules.{SchemesWritten}
 use Rattle.module_offers.specs.Offers.{value, defined_value, pattern_count, function_values, group_values}
 use Rattle.module_offers.specs.Offers.{declared_values, port_value, module_values, is_offered, named_by}
 use Rattle.module_offers.specs.Offers.{module_interface}

@@ -15,7 +15,7 @@ use Rattle.infer_annotations.specs.Once.{FieldsOnce}
 use Rattle.infer_annotations.proofs.Topmost.{kept_is_scheme, kept_is_written}
 use Rattle.infer_known.proofs.Looking.{of_found}
 use Rattle.infer_known.proofs.Writing.{annotation_written}
-use Rattle.infer.proofs.Written.{written_renamed}
+use Rattle.infer_modules.proofs.Written.{written_renamed}
 use Rattle.module_offers.specs.Offers.{Interfaces, offered_types, type_in, known_by}
 use Rattle.module_sound.specs.Sound.{AreSound}
 

@@ -11,8 +11,8 @@ use Rattle.infer_base.specs.Ready.{IsWritten}
 use Rattle.infer_base.specs.View.{code_of, here, known_view}
 use Rattle.infer_faults.specs.declared.explain.Said.{Said}
 use Rattle.infer.specs.Middle.{Middle, Starts}
-use Rattle.infer.specs.Modules.{root}
-use Rattle.infer.specs.Names.{groups_in}
+use Rattle.infer_modules.specs.Modules.{root}
+use Rattle.infer_modules.specs.Modules.{groups_in}
 use Rattle.infer.specs.Told.{told_views}
 use Rattle.infer.specs.Types.{schemes_of}
 use Rattle.infer.proofs.Beginning.{begins_defined, begins_once, begins_simple, begins_titled, can_begin, names_once}

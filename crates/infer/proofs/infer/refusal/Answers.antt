@@ -7,7 +7,7 @@ use Rattle.type_refusals.specs.Failing.{FailsAt}
 use Rattle.infer_base.specs.View.{bad_view}
 use Rattle.infer_faults.specs.Inside.{IsInside}
 use Rattle.infer_faults.specs.declared.explain.Said.{Said}
-use Rattle.infer.specs.Modules.{root}
+use Rattle.infer_modules.specs.Modules.{root}
 use Rattle.infer.proofs.Reopened.{more, fails_on}
 use Rattle.infer.proofs.infer.refusal.Goals as goal
 

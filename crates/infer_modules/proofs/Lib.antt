@@ -1,0 +1,2 @@
+-- the types of annotations have no constants
+pub mod Written

@@ -1,0 +1,2 @@
+-- modules whose types can be inferred, and what they tell others
+pub mod Modules
