@@ -1,4 +1,4 @@
--- A resolved module names the fields that are written.
+-- A resolved module has fields, where the updates that are written name some.
 use Rattle.std.proofs.Common.{ℕ, zero, suc, List, [], ◌∷◌, map, sym, subst}
 use Rattle.std.specs.Prelude.{Option, None, slice_index_or}
 use Rattle.std.specs.List.{AllByRecursion, flat_map}
@@ -21,115 +21,117 @@ use Rattle.canon_values.specs.Items.{Item, PortItem, ValueItem, item_of, items_o
 use Rattle.canon_values.specs.Items.{items_at, top_used, value_groups}
 use Rattle.canon_declared.specs.Unions.{alternatives_of}
 use Rattle.canon_module.specs.Resolve.{maker_of, record_maker, makers_in, world_of}
-use Rattle.field_names.specs.Canonical.{Condition, GroupMeets, DeclarationMeets, DeclarationsMeet}
-use Rattle.field_names.specs.Written.{WrittenDeclaration, WrittenDeclarations}
-use Rattle.canon_fields.specs.Laws.{ModulesNameFields}
-use Rattle.canon_fields.proofs.Parts.{all_both, patterns_meet}
-use Rattle.canon_fields.proofs.Blocks.{MadeMeets, define_meets, group_meets}
+use Rattle.told_modules.specs.Resolved.{GroupHasFields, DeclarationHasFields}
+use Rattle.field_names.specs.Written.{DeclarationUpdatesSome, DeclarationsUpdateSome}
+use Rattle.canon_fields.specs.Laws.{ModulesHaveFields}
+use Rattle.canon_fields.proofs.Parts.{all_both, patterns_have}
+use Rattle.canon_fields.proofs.Blocks.{MadeHasFields, define_has, group_has}
 use Rattle.canon_fields.proofs.Exprs.{expr_of}
 
-module _ (P U : Condition) where
-  abbrev ItemMeets : Item → Type 0
-  ItemMeets (PortItem r k) = Unit {0}
-  ItemMeets (ValueItem m) = MadeMeets P U m
+abbrev AllHaveFields : List canon.Declaration → Type 0
+AllHaveFields ds = AllByRecursion DeclarationHasFields ds
 
-  -- ---- groups
+abbrev ItemHasFields : Item → Type 0
+ItemHasFields (PortItem r k) = Unit {0}
+ItemHasFields (ValueItem m) = MadeHasFields m
 
-  item_at : (items : List Item) → AllByRecursion ItemMeets items → (i : ℕ)
-      → ItemMeets (slice_index_or items i (ValueItem NoMade))
-  item_at [] h i = tt
-  item_at (x ∷ items) h zero = h.0
-  item_at (x ∷ items) h (suc i) = item_at items h.1 i
+-- ---- groups
 
-  items_there : (items : List Item) → AllByRecursion ItemMeets items → (places : List ℕ)
-      → AllByRecursion ItemMeets (items_at items places)
-  items_there items h [] = tt
-  items_there items h (i ∷ places) = (item_at items h i, items_there items h places)
+item_at : (items : List Item) → AllByRecursion ItemHasFields items → (i : ℕ)
+    → ItemHasFields (slice_index_or items i (ValueItem NoMade))
+item_at [] h i = tt
+item_at (x ∷ items) h zero = h.0
+item_at (x ∷ items) h (suc i) = item_at items h.1 i
 
-  made_of_item : (i : Item) → ItemMeets i → MadeMeets P U (made_by i)
-  made_of_item (PortItem r k) h = tt
-  made_of_item (ValueItem m) h = h
+items_there : (items : List Item) → AllByRecursion ItemHasFields items → (places : List ℕ)
+    → AllByRecursion ItemHasFields (items_at items places)
+items_there items h [] = tt
+items_there items h (i ∷ places) = (item_at items h i, items_there items h places)
 
-  all_made : (items : List Item) → AllByRecursion ItemMeets items → AllByRecursion (MadeMeets P U) (map made_by items)
-  all_made [] h = tt
-  all_made (i ∷ items) h = (made_of_item i h.0, all_made items h.1)
+made_of_item : (i : Item) → ItemHasFields i → MadeHasFields (made_by i)
+made_of_item (PortItem r k) h = tt
+made_of_item (ValueItem m) h = h
 
-  defined : (gs : List Group) → AllByRecursion (GroupMeets P U) gs → DeclarationsMeet P U (map canon.Define gs)
-  defined [] h = tt
-  defined (g ∷ gs) h = (h.0, defined gs h.1)
+all_made : (items : List Item) → AllByRecursion ItemHasFields items → AllByRecursion MadeHasFields (map made_by items)
+all_made [] h = tt
+all_made (i ∷ items) h = (made_of_item i h.0, all_made items h.1)
 
-  made_group : (items : List Item) → AllByRecursion ItemMeets items
-      → DeclarationsMeet P U (map canon.Define (group_of (map made_by items)))
-  made_group items h =
-      defined (group_of (map made_by items)) (group_meets P U (map made_by items) (all_made items h))
+defined : (gs : List Group) → AllByRecursion GroupHasFields gs → AllHaveFields (map canon.Define gs)
+defined [] h = tt
+defined (g ∷ gs) h = (h.0, defined gs h.1)
 
-  grouped_meets : (items : List Item) → AllByRecursion ItemMeets items → DeclarationsMeet P U (grouped items)
-  grouped_meets [] h = made_group [] h
-  grouped_meets (PortItem r k ∷ []) h = (tt, tt)
-  grouped_meets (ValueItem m ∷ []) h = made_group (ValueItem m ∷ []) h
-  grouped_meets (PortItem r k ∷ i ∷ items) h = made_group (PortItem r k ∷ i ∷ items) h
-  grouped_meets (ValueItem m ∷ i ∷ items) h = made_group (ValueItem m ∷ i ∷ items) h
+made_group : (items : List Item) → AllByRecursion ItemHasFields items
+    → AllHaveFields (map canon.Define (group_of (map made_by items)))
+made_group items h =
+    defined (group_of (map made_by items)) (group_has (map made_by items) (all_made items h))
 
-  groups_meet : (items : List Item) → AllByRecursion ItemMeets items → (lists : List (List ℕ))
-      → DeclarationsMeet P U (flat_map (λ places. grouped (items_at items places)) lists)
-  groups_meet items h [] = tt
-  groups_meet items h (places ∷ lists) =
-      all_both (DeclarationMeets P U) (grouped (items_at items places))
-      (flat_map (λ places. grouped (items_at items places)) lists)
-      (grouped_meets (items_at items places) (items_there items h places)) (groups_meet items h lists)
+grouped_have : (items : List Item) → AllByRecursion ItemHasFields items → AllHaveFields (grouped items)
+grouped_have [] h = made_group [] h
+grouped_have (PortItem r k ∷ []) h = (tt, tt)
+grouped_have (ValueItem m ∷ []) h = made_group (ValueItem m ∷ []) h
+grouped_have (PortItem r k ∷ i ∷ items) h = made_group (PortItem r k ∷ i ∷ items) h
+grouped_have (ValueItem m ∷ i ∷ items) h = made_group (ValueItem m ∷ i ∷ items) h
 
-  -- ---- constructors
+groups_have : (items : List Item) → AllByRecursion ItemHasFields items → (lists : List (List ℕ))
+    → AllHaveFields (flat_map (λ places. grouped (items_at items places)) lists)
+groups_have items h [] = tt
+groups_have items h (places ∷ lists) =
+    all_both DeclarationHasFields (grouped (items_at items places))
+    (flat_map (λ places. grouped (items_at items places)) lists)
+    (grouped_have (items_at items places) (items_there items h places)) (groups_have items h lists)
 
-  makers_of : (home : Name) (cs : List Alternative) → DeclarationsMeet P U (map (maker_of home) cs)
-  makers_of home [] = tt
-  makers_of home (c ∷ cs) = (tt, makers_of home cs)
+-- ---- constructors
 
-  record_meets : (home : Name) (x : Word) (t : TypeTree) → DeclarationsMeet P U (record_maker home x t)
-  record_meets home x (tree.RecordType fs) = (tt, tt)
-  record_meets home x (tree.TypeVariable y) = tt
-  record_meets home x (tree.TypeName y ts) = tt
-  record_meets home x (tree.FunctionType ts) = tt
-  record_meets home x (tree.TupleType ts) = tt
-  record_meets home x (tree.ExtendedType y fs) = tt
+makers_of : (home : Name) (cs : List Alternative) → AllHaveFields (map (maker_of home) cs)
+makers_of home [] = tt
+makers_of home (c ∷ cs) = (tt, makers_of home cs)
 
-  maker_meets : (home : Name) (d : Declaration) → DeclarationsMeet P U (makers_in home d)
-  maker_meets home (Value d) = tt
-  maker_meets home (Port x t) = tt
-  maker_meets home (Union x ps cs) = makers_of home (alternatives_of home (name_of x) cs)
-  maker_meets home (Alias x ps t) = record_meets home x t
+record_has : (home : Name) (x : Word) (t : TypeTree) → AllHaveFields (record_maker home x t)
+record_has home x (tree.RecordType fs) = (tt, tt)
+record_has home x (tree.TypeVariable y) = tt
+record_has home x (tree.TypeName y ts) = tt
+record_has home x (tree.FunctionType ts) = tt
+record_has home x (tree.TupleType ts) = tt
+record_has home x (tree.ExtendedType y fs) = tt
 
-  makers_meet : (home : Name) (ds : List Declaration) → DeclarationsMeet P U (flat_map (makers_in home) ds)
-  makers_meet home [] = tt
-  makers_meet home (d ∷ ds) =
-      all_both (DeclarationMeets P U) (makers_in home d) (flat_map (makers_in home) ds) (maker_meets home d)
-      (makers_meet home ds)
+maker_has : (home : Name) (d : Declaration) → AllHaveFields (makers_in home d)
+maker_has home (Value d) = tt
+maker_has home (Port x t) = tt
+maker_has home (Union x ps cs) = makers_of home (alternatives_of home (name_of x) cs)
+maker_has home (Alias x ps t) = record_has home x t
 
-  -- ---- values
+makers_have : (home : Name) (ds : List Declaration) → AllHaveFields (flat_map (makers_in home) ds)
+makers_have home [] = tt
+makers_have home (d ∷ ds) =
+    all_both DeclarationHasFields (makers_in home d) (flat_map (makers_in home) ds) (maker_has home d)
+    (makers_have home ds)
 
-  module _ (w : World) where
-    one_item : (before : Option Annotation) (d : Declaration) → WrittenDeclaration P U d
-        → ItemMeets (item_of w before d)
-    one_item before (Value (Annotate x t)) h = tt
-    one_item before (Value (Define x ps e)) h =
-        let inner = with_names (words_of_all ps) no_locals in
-        define_meets P U (is_function ps e) (title_of (Top w.name (name_of x)) x.place before) (patterns_of w ps)
-        (meant w inner e) (patterns_meet P w ps h.0) (expr_of P U w e inner h.1)
-    one_item before (Value (Destructure p e)) h = tt
-    one_item before (Port x t) h = tt
-    one_item before (Union x ps cs) h = tt
-    one_item before (Alias x ps t) h = tt
+-- ---- values
 
-    each_item : (before : Option Annotation) (ds : List Declaration) → WrittenDeclarations P U ds
-        → AllByRecursion ItemMeets (items_of w before ds)
-    each_item before [] h = tt
-    each_item before (d ∷ ds) h = (one_item before d h.0, each_item (annotation_by w d) ds h.1)
+module _ (w : World) where
+  one_item : (before : Option Annotation) (d : Declaration) → DeclarationUpdatesSome d
+      → ItemHasFields (item_of w before d)
+  one_item before (Value (Annotate x t)) h = tt
+  one_item before (Value (Define x ps e)) h =
+      let inner = with_names (words_of_all ps) no_locals in
+      define_has (is_function ps e) (title_of (Top w.name (name_of x)) x.place before) (patterns_of w ps)
+      (meant w inner e) (patterns_have w ps) (expr_of w e inner h)
+  one_item before (Value (Destructure p e)) h = tt
+  one_item before (Port x t) h = tt
+  one_item before (Union x ps cs) h = tt
+  one_item before (Alias x ps t) h = tt
 
-    values_meet : (ds : List Declaration) → WrittenDeclarations P U ds → DeclarationsMeet P U (value_groups w ds)
-    values_meet ds h = groups_meet (items_of w None ds) (each_item None ds h) (ordered_groups (top_used w ds))
+  each_item : (before : Option Annotation) (ds : List Declaration) → DeclarationsUpdateSome ds
+      → AllByRecursion ItemHasFields (items_of w before ds)
+  each_item before [] h = tt
+  each_item before (d ∷ ds) h = (one_item before d h.0, each_item (annotation_by w d) ds h.1)
 
-pub modules_name : ModulesNameFields
-modules_name P U s t m is h =
+  values_have : (ds : List Declaration) → DeclarationsUpdateSome ds → AllHaveFields (value_groups w ds)
+  values_have ds h = groups_have (items_of w None ds) (each_item None ds h) (ordered_groups (top_used w ds))
+
+pub modules_have : ModulesHaveFields
+modules_have s t m is h =
     let w = world_of s t.declarations m in
-    subst (DeclarationsMeet P U) (sym is.declarations)
-    (all_both (DeclarationMeets P U) (flat_map (makers_in s.home) t.declarations) (value_groups w t.declarations)
-    (makers_meet P U s.home t.declarations) (values_meet P U w t.declarations h))
+    subst AllHaveFields (sym is.declarations)
+    (all_both DeclarationHasFields (flat_map (makers_in s.home) t.declarations) (value_groups w t.declarations)
+    (makers_have s.home t.declarations) (values_have w t.declarations h))

@@ -12,8 +12,7 @@ use Rattle.canon_env.specs.Shown.{MakerMeaning, OfUnion, OfRecord}
 use Rattle.canon_sites.specs.Naming.{World, maker_found}
 use Rattle.canon_sites.specs.Patterns.{pattern_of, patterns_of, list_of, items_of, construct_of}
 use Rattle.canon_leaves.specs.Exprs.{accessed, one}
-use Rattle.field_names.specs.Canonical.{Condition, PatternMeets, PatternsMeet, Meets, EachMeets}
-use Rattle.field_names.specs.Written.{WrittenPattern, WrittenPatterns}
+use Rattle.told_modules.specs.Resolved.{PatternHasFields, PatternsHaveFields, HasFields, EachHasFields}
 
 pub all_both : {X : Type 0} (P : X → Type 0) (xs ys : List X) → AllByRecursion P xs → AllByRecursion P ys
     → AllByRecursion P (xs ++ ys)
@@ -22,55 +21,54 @@ all_both P (x ∷ xs) ys h k = (h.0, all_both P xs ys h.1 k)
 
 -- ---- patterns
 
-module _ (P : Condition) where
-  list_meets : (qs : canon.Patterns) → PatternsMeet P qs → PatternMeets P (list_of qs)
-  list_meets canon.NoPattern h = tt
-  list_meets (canon.MorePattern q qs) h = (h.0, (list_meets qs h.1, tt))
+list_has : (qs : canon.Patterns) → PatternsHaveFields qs → PatternHasFields (list_of qs)
+list_has canon.NoPattern h = tt
+list_has (canon.MorePattern q qs) h = (h.0, (list_has qs h.1, tt))
 
-  items_meet : (qs : canon.Patterns) → PatternsMeet P qs → PatternMeets P (items_of qs)
-  items_meet canon.NoPattern h = tt
-  items_meet (canon.MorePattern q canon.NoPattern) h = h.0
-  items_meet (canon.MorePattern q (canon.MorePattern r qs)) h = (h.0, (items_meet (canon.MorePattern r qs) h.1, tt))
+items_have : (qs : canon.Patterns) → PatternsHaveFields qs → PatternHasFields (items_of qs)
+items_have canon.NoPattern h = tt
+items_have (canon.MorePattern q canon.NoPattern) h = h.0
+items_have (canon.MorePattern q (canon.MorePattern r qs)) h = (h.0, (items_have (canon.MorePattern r qs) h.1, tt))
 
-  construct_meets : (qs : canon.Patterns) → PatternsMeet P qs → (f : Found MakerMeaning)
-      → PatternMeets P (construct_of qs f)
-  construct_meets qs h Nothing = tt
-  construct_meets qs h Several = tt
-  construct_meets qs h (One m) = by m.meaning m.home
-    where
-      by : (n : MakerMeaning) (home : Name)
-          → PatternMeets P (construct_of qs (One (record { home = home; meaning = n })))
-      by (OfUnion u c) home = h
-      by (OfRecord fields) home = tt
+construct_has : (qs : canon.Patterns) → PatternsHaveFields qs → (f : Found MakerMeaning)
+    → PatternHasFields (construct_of qs f)
+construct_has qs h Nothing = tt
+construct_has qs h Several = tt
+construct_has qs h (One m) = by m.meaning m.home
+  where
+    by : (n : MakerMeaning) (home : Name)
+        → PatternHasFields (construct_of qs (One (record { home = home; meaning = n })))
+    by (OfUnion u c) home = h
+    by (OfRecord fields) home = tt
 
-  module _ (w : World) where
-    mutual
-      pub pattern_meets : (q : tree.Pattern) → WrittenPattern P q → PatternMeets P (pattern_of w q)
-      pattern_meets (tree.Anything p) h = tt
-      pattern_meets (tree.Named x) h = tt
-      pattern_meets (tree.As p q x) h = pattern_meets q h
-      pattern_meets (tree.Exactly p l) h = tt
-      pattern_meets (tree.Construct x qs) h = construct_meets (patterns_of w qs) (patterns_meet qs h) (maker_found w x)
-      pattern_meets (tree.ConsPattern p qs) h = items_meet (patterns_of w qs) (patterns_meet qs h)
-      pattern_meets (tree.ListPattern p qs) h = list_meets (patterns_of w qs) (patterns_meet qs h)
-      pattern_meets (tree.TuplePattern p qs) h = patterns_meet qs h
-      pattern_meets (tree.FieldsPattern p xs) h = h
+module _ (w : World) where
+  mutual
+    pub pattern_has : (q : tree.Pattern) → PatternHasFields (pattern_of w q)
+    pattern_has (tree.Anything p) = tt
+    pattern_has (tree.Named x) = tt
+    pattern_has (tree.As p q x) = pattern_has q
+    pattern_has (tree.Exactly p l) = tt
+    pattern_has (tree.Construct x qs) = construct_has (patterns_of w qs) (patterns_have qs) (maker_found w x)
+    pattern_has (tree.ConsPattern p qs) = items_have (patterns_of w qs) (patterns_have qs)
+    pattern_has (tree.ListPattern p qs) = list_has (patterns_of w qs) (patterns_have qs)
+    pattern_has (tree.TuplePattern p qs) = patterns_have qs
+    pattern_has (tree.FieldsPattern p []) = tt
+    pattern_has (tree.FieldsPattern p (x ∷ xs)) = tt
 
-      pub patterns_meet : (qs : tree.Patterns) → WrittenPatterns P qs → PatternsMeet P (patterns_of w qs)
-      patterns_meet tree.NoPattern h = tt
-      patterns_meet (tree.MorePattern q qs) h = (pattern_meets q h.0, patterns_meet qs h.1)
+    pub patterns_have : (qs : tree.Patterns) → PatternsHaveFields (patterns_of w qs)
+    patterns_have tree.NoPattern = tt
+    patterns_have (tree.MorePattern q qs) = (pattern_has q, patterns_have qs)
 
 -- ---- expressions
 
-module _ (P U : Condition) where
-  abbrev pub Each : List Expr → Type 0
-  Each es = AllByRecursion (Meets P U) es
+abbrev pub Each : List Expr → Type 0
+Each es = AllByRecursion HasFields es
 
-  pub each_of : (es : List Expr) → Each es → EachMeets P U (exprs_of es)
-  each_of [] h = tt
-  each_of (e ∷ es) h = (h.0, each_of es h.1)
+pub each_of : (es : List Expr) → Each es → EachHasFields (exprs_of es)
+each_of [] h = tt
+each_of (e ∷ es) h = (h.0, each_of es h.1)
 
-  -- the fields of a value
-  pub accessed_of : (e : Expr) (xs : List Word) → Meets P U e → Meets P U (accessed e xs)
-  accessed_of e [] h = h
-  accessed_of e (x ∷ xs) h = accessed_of (Strict (Access (name_of x)) (one e)) xs (tt, (h, tt))
+-- the fields of a value
+pub accessed_of : (e : Expr) (xs : List Word) → HasFields e → HasFields (accessed e xs)
+accessed_of e [] h = h
+accessed_of e (x ∷ xs) h = accessed_of (Strict (Access (name_of x)) (one e)) xs (tt, (h, tt))

@@ -1,11 +1,12 @@
--- The fields that the record patterns and record updates of a resolved module name: those that are written.
+-- The record patterns of a resolved module name fields. So do its record updates, where those that are written do.
+use Rattle.std.specs.List.{AllByRecursion}
 use Rattle.elm_tree.specs.Tree as tree
 use Rattle.elm_canon.specs.Tree as canon
 use Rattle.canon_module.specs.Resolve.{Setting, IsModule}
-use Rattle.field_names.specs.Canonical.{Condition, DeclarationsMeet}
-use Rattle.field_names.specs.Written.{WrittenDeclarations}
+use Rattle.told_modules.specs.Resolved.{DeclarationHasFields}
+use Rattle.field_names.specs.Written.{DeclarationsUpdateSome}
 
-abbrev pub ModulesNameFields : Type 0
-ModulesNameFields =
-    (P U : Condition) (s : Setting) (t : tree.Module) (m : canon.Module) → IsModule s t.declarations m
-    → WrittenDeclarations P U t.declarations → DeclarationsMeet P U m.declarations
+abbrev pub ModulesHaveFields : Type 0
+ModulesHaveFields =
+    (s : Setting) (t : tree.Module) (m : canon.Module) → IsModule s t.declarations m
+    → DeclarationsUpdateSome t.declarations → AllByRecursion DeclarationHasFields m.declarations

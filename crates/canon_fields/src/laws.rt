@@ -1,9 +1,9 @@
 //! What holds of each resolved module.
 
-ghost use Rattle.canon_fields.specs.Laws.{ModulesNameFields};
+ghost use Rattle.canon_fields.specs.Laws.{ModulesHaveFields};
 
-/// The record patterns and record updates of a resolved module name fields that meet conditions, where those that are
-/// written do.
+/// Each record pattern of a resolved module names a field, and so does each record update, where each update that is
+/// written does. The pattern `{}` matches anything, and takes no record apart.
 pub fn fields_law()
-    ensures { ModulesNameFields }
+    ensures { ModulesHaveFields }
 {}

@@ -80,7 +80,8 @@ module _ (x : Ref) where
       pattern_bound (tree.ConsPattern p ps) h = patterns_bound ps (items_bound (patterns_of w ps) h)
       pattern_bound (tree.ListPattern p ps) h = patterns_bound ps (list_bound (patterns_of w ps) h)
       pattern_bound (tree.TuplePattern p ps) h = patterns_bound ps h
-      pattern_bound (tree.FieldsPattern p xs) h = subst (IsIn x) (refs_locals xs) h
+      pattern_bound (tree.FieldsPattern p []) h = absurd cc
+      pattern_bound (tree.FieldsPattern p (y ∷ ys)) h = subst (IsIn x) (refs_locals (y ∷ ys)) h
 
       pub patterns_bound : (ps : tree.Patterns) → IsIn x (all_bound_by (patterns_of w ps))
           → IsIn x (refs (words_of_all ps))

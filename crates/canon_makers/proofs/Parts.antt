@@ -81,7 +81,8 @@ module _ (P : Condition) (meets : Meets P) where
       pattern_takes (tree.ConsPattern p qs) = items_take (patterns_of w qs) (patterns_take qs)
       pattern_takes (tree.ListPattern p qs) = list_takes (patterns_of w qs) (patterns_take qs)
       pattern_takes (tree.TuplePattern p qs) = (meets.tuples (count_of qs), patterns_take qs)
-      pattern_takes (tree.FieldsPattern p xs) = tt
+      pattern_takes (tree.FieldsPattern p []) = tt
+      pattern_takes (tree.FieldsPattern p (x ∷ xs)) = tt
 
       pub patterns_take : (qs : tree.Patterns) → PatternsTake P (patterns_of w qs)
       patterns_take tree.NoPattern = tt

@@ -2,6 +2,7 @@
 use Rattle.std.proofs.Common.{◌≡◌, suc, List, [], ◌∷◌, ◌++◌, length, map, ap, sym, refl, ◌∙◌}
 use Rattle.std.proofs.lemmas.List.{map-append}
 use Rattle.std.specs.List.{flat_map}
+use Rattle.elm_canon.specs.Names.{Name}
 use Rattle.elm_canon.specs.Tree as canon
 use Rattle.elm_canon.specs.View.{nil_pattern, items_before, cons_pattern, pattern_view, patterns_view}
 use Rattle.elm_canon.specs.declared.tree.Pattern as program
@@ -10,7 +11,7 @@ use Rattle.elm_canon.proofs.Views.{anything_pattern}
 use Rattle.elm_tree.specs.Tree as tree
 use Rattle.canon_sites.specs.Naming.{World}
 use Rattle.canon_sites.specs.Patterns.{words_of, words_of_all, count_of, match_sites, match_sites_all, items_of, list_of}
-use Rattle.canon_sites.specs.Patterns.{pattern_of, patterns_of}
+use Rattle.canon_sites.specs.Patterns.{pattern_of, patterns_of, fields_of}
 
 pub words_all : (ps : List tree.Pattern) → words_of_all (tree.patterns_of ps) ≡ flat_map words_of ps
 words_all [] = refl
@@ -40,6 +41,15 @@ list_is [] = refl
 list_is (p ∷ ps) = ap (cons_pattern p) (list_is ps)
 
 -- the items and the rest of a list, by its parts
+-- of no fields, and of some
+pub fields_none : (xs : List Name) → length xs ≡ 0 → fields_of xs ≡ canon.Anything
+fields_none [] e = refl
+fields_none (x ∷ xs) e = absurd cc
+
+pub fields_some : (xs : List Name) → (length xs ≡ 0 → ⊥) → fields_of xs ≡ canon.FieldsOf xs
+fields_some [] n = absurd (n refl)
+fields_some (x ∷ xs) n = refl
+
 pub items_view : (parts front : List program.Pattern) (rest : program.Pattern) → parts ≡ front ++ rest ∷ [] →
     items_before (pattern_view rest) (map pattern_view front) ≡ items_of (patterns_view parts)
 items_view parts front rest e =

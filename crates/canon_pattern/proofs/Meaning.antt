@@ -16,7 +16,7 @@ use Rattle.canon_env.specs.Imports.{name_of}
 use Rattle.canon_sites.specs.Naming.{World, maker_found}
 use Rattle.canon_sites.specs.Sites.{Site, MakerMatch, faults_at}
 use Rattle.canon_sites.specs.Patterns.{match_sites, match_sites_all, pattern_of, patterns_of, construct_of, items_of}
-use Rattle.canon_sites.specs.Patterns.{list_of, count_of}
+use Rattle.canon_sites.specs.Patterns.{list_of, fields_of, count_of}
 use Rattle.canon_scope.specs.Logs.{Grows, used_place}
 use Rattle.canon_scope.specs.declared.log.Log.{Log}
 use Rattle.canon_scope.proofs.Growing.{grows_none, grows_more, grows_one}
@@ -97,9 +97,9 @@ tuple_means w place written ps got meant qs whole e m many d =
 
 pub fields_means : (w : World) (place : Pos) (written : tree.Pattern) (xs : List Word) (got meant : canon.Pattern)
     (names : List Name) → written ≡ tree.FieldsPattern place xs → got ≡ LocatedPattern place meant →
-    meant ≡ canon.FieldsOf names → names ≡ map name_of xs → got ≡ pattern_of w written
+    meant ≡ fields_of names → names ≡ map name_of xs → got ≡ pattern_of w written
 fields_means w place written xs got meant names whole e m d =
-    e ∙ ap (LocatedPattern place) (m ∙ ap canon.FieldsOf d) ∙ ap (pattern_of w) (sym whole)
+    e ∙ ap (LocatedPattern place) (m ∙ ap fields_of d) ∙ ap (pattern_of w) (sym whole)
 
 pub as_means : (w : World) (place : Pos) (written p : tree.Pattern) (x : Word) (got meant inner : canon.Pattern)
     (name : Name) → written ≡ tree.As place p x → got ≡ LocatedPattern place meant → meant ≡ canon.As inner name →

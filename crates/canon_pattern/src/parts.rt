@@ -54,6 +54,17 @@ pub(crate) fn names_of(
     Ok(names)
 }
 
+/// The record pattern of these fields. Without a field it matches anything.
+pub(crate) fn fields(names: Vec<Name>) -> Pattern
+    ensures { pattern_view result ≡ spec.fields_of names.items }
+{
+    if names.len() == 0 {
+        Pattern::Anything
+    } else {
+        Pattern::Fields(names)
+    }
+}
+
 /// Items before the rest of a list, which is the last part.
 pub(crate) fn items(alloc: Global, parts: Vec<Pattern>) -> Result<Pattern, AllocError>
     ensures { IfOk result (λ p. pattern_view p ≡ spec.items_of (patterns_view parts.items)) }

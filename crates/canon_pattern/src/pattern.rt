@@ -16,7 +16,7 @@ ghost use Rattle.canon_pattern.specs.Literals.{AreLiterals};
 ghost use Rattle.canon_pattern.specs.Matches.{match_faults_at};
 
 use crate::literal::{negative, one_word};
-use crate::parts::{items, located, names_of};
+use crate::parts::{fields, items, located, names_of};
 use canon_env::env::World;
 use canon_env::found::Entry;
 use canon_env::import::word_name;
@@ -130,7 +130,7 @@ pub fn pattern(
         }
         tree::Pattern::Fields(first, names) => {
             let names = names_of(alloc, tokens, names)?;
-            located(alloc, tokens, *first, Pattern::Fields(names))
+            located(alloc, tokens, *first, fields(names))
         }
         tree::Pattern::As(first, inner, name) => {
             let meant = pattern(alloc, tokens, world, log, inner)?;

@@ -140,7 +140,9 @@ module _ (w : World) (has : HasMakers w) where
     pattern_good (tree.TuplePattern p ps) scope f s q =
         let r = patterns_good ps scope f s.1 q in
         ((tuple_is (count_of ps) s.0, (counts w ps ∙ arity (count_of ps), r.0)), r.1)
-    pattern_good (tree.FieldsPattern p xs) scope f s q = (fields_are xs scope f s, refs_locals xs)
+    pattern_good (tree.FieldsPattern p []) scope f s q = (tt, refl)
+    pattern_good (tree.FieldsPattern p (x ∷ xs)) scope f s q =
+        (fields_are (x ∷ xs) scope f s, refs_locals (x ∷ xs))
 
     pub patterns_good : (ps : tree.Patterns) (scope : Scope) → AreFresh (refs (words_of_all ps)) scope →
         AreSpelledPatterns ps → AreSound w (match_sites_all ps) → GoodAll (patterns_of w ps) (words_of_all ps)

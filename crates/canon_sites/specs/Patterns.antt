@@ -1,5 +1,6 @@
 -- What patterns bind and mean, and their sites. (Elm guide: pattern matching.)
 use Rattle.std.specs.Prelude.{ℕ, suc, List, [], ◌∷◌, ◌++◌, map}
+use Rattle.elm_canon.specs.Names.{Name}
 use Rattle.elm_canon.specs.Tree as canon
 use Rattle.elm_canon.specs.Tree.{LocatedPattern}
 use Rattle.elm_canon.specs.Unions.{ListUnion, TupleUnion, tuple_alternative, nil_alternative, cons_alternative}
@@ -97,6 +98,11 @@ construct_of ps (One r) = by r.meaning
     by (OfUnion u c) = canon.Construct u c ps
     by (OfRecord fields) = canon.Anything
 
+-- a record pattern without a field matches anything
+abbrev pub fields_of : List Name → canon.Pattern
+fields_of [] = canon.Anything
+fields_of (x ∷ xs) = canon.FieldsOf (x ∷ xs)
+
 abbrev mutual
   pub pattern_of : World → Pattern → canon.Pattern
   pattern_of w (Anything p) = LocatedPattern p canon.Anything
@@ -108,7 +114,7 @@ abbrev mutual
   pattern_of w (ListPattern p ps) = LocatedPattern p (list_of (patterns_of w ps))
   pattern_of w (TuplePattern p ps) =
       LocatedPattern p (canon.Construct (TupleUnion (count_of ps)) (tuple_alternative (count_of ps)) (patterns_of w ps))
-  pattern_of w (FieldsPattern p xs) = LocatedPattern p (canon.FieldsOf (map name_of xs))
+  pattern_of w (FieldsPattern p xs) = LocatedPattern p (fields_of (map name_of xs))
 
   pub patterns_of : World → Patterns → canon.Patterns
   patterns_of w NoPattern = canon.NoPattern

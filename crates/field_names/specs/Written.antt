@@ -1,80 +1,63 @@
--- Trees as they are written: the fields of each record pattern meet the first condition, and those of each record
--- update the second.
-use Rattle.std.specs.Prelude.{◌≡◌, List, true, map}
+-- Trees as they are written: each record update names a field.
+use Rattle.std.specs.Prelude.{List}
 use Rattle.std.specs.List.{AllByRecursion}
-use Rattle.elm_tree.specs.Tree.{Pattern, Anything, Named, As, Exactly, Construct, ConsPattern, ListPattern}
-use Rattle.elm_tree.specs.Tree.{TuplePattern, FieldsPattern, Patterns, NoPattern, MorePattern, Expr, Is, Name}
-use Rattle.elm_tree.specs.Tree.{Constructor, OperatorName, Accessor, Lambda, Apply, Chain, Negate, If, Case, Let}
-use Rattle.elm_tree.specs.Tree.{ListOf, TupleOf, RecordOf, Update, Access, Exprs, NoExpr, MoreExpr, Parts, NoPart}
-use Rattle.elm_tree.specs.Tree.{MorePart, Branches, NoBranch, MoreBranch, Definitions, NoDefinition, MoreDefinition}
-use Rattle.elm_tree.specs.Tree.{Definition, Annotate, Define, Destructure, Declaration, Value, Port, Union, Alias}
-use Rattle.canon_env.specs.Imports.{name_of}
-use Rattle.canon_leaves.specs.Exprs.{part_words}
-use Rattle.field_names.specs.Canonical.{Condition}
+use Rattle.elm_tree.specs.Tree.{Expr, Is, Name, Constructor, OperatorName, Accessor, Lambda, Apply, Chain, Negate}
+use Rattle.elm_tree.specs.Tree.{If, Case, Let, ListOf, TupleOf, RecordOf, Update, Access, Exprs, NoExpr, MoreExpr}
+use Rattle.elm_tree.specs.Tree.{Parts, NoPart, MorePart, Branches, NoBranch, MoreBranch, Definitions, NoDefinition}
+use Rattle.elm_tree.specs.Tree.{MoreDefinition, Definition, Annotate, Define, Destructure, Declaration, Value, Port}
+use Rattle.elm_tree.specs.Tree.{Union, Alias}
+
+abbrev pub HasPart : Parts → Type 0
+HasPart NoPart = ⊥
+HasPart (MorePart x e ps) = Unit {0}
 
 abbrev mutual
-  pub WrittenPattern : Condition → Pattern → Type 0
-  WrittenPattern P (Anything p) = Unit {0}
-  WrittenPattern P (Named x) = Unit {0}
-  WrittenPattern P (As p q x) = WrittenPattern P q
-  WrittenPattern P (Exactly p l) = Unit {0}
-  WrittenPattern P (Construct x qs) = WrittenPatterns P qs
-  WrittenPattern P (ConsPattern p qs) = WrittenPatterns P qs
-  WrittenPattern P (ListPattern p qs) = WrittenPatterns P qs
-  WrittenPattern P (TuplePattern p qs) = WrittenPatterns P qs
-  WrittenPattern P (FieldsPattern p xs) = P (map name_of xs) ≡ true
+  pub UpdatesSome : Expr → Type 0
+  UpdatesSome (Is p l) = Unit {0}
+  UpdatesSome (Name x) = Unit {0}
+  UpdatesSome (Constructor x) = Unit {0}
+  UpdatesSome (OperatorName op) = Unit {0}
+  UpdatesSome (Accessor x) = Unit {0}
+  UpdatesSome (Lambda p qs e) = UpdatesSome e
+  UpdatesSome (Apply f es) = UpdatesSome f × EachUpdatesSome es
+  UpdatesSome (Chain e ps) = UpdatesSome e × PartsUpdateSome ps
+  UpdatesSome (Negate p e) = UpdatesSome e
+  UpdatesSome (If c a b) = UpdatesSome c × (UpdatesSome a × UpdatesSome b)
+  UpdatesSome (Case p e bs) = UpdatesSome e × BranchesUpdateSome bs
+  UpdatesSome (Let ds e) = DefinitionsUpdateSome ds × UpdatesSome e
+  UpdatesSome (ListOf p es) = EachUpdatesSome es
+  UpdatesSome (TupleOf p es) = EachUpdatesSome es
+  UpdatesSome (RecordOf p fs) = PartsUpdateSome fs
+  UpdatesSome (Update p r fs) = HasPart fs × PartsUpdateSome fs
+  UpdatesSome (Access p e xs) = UpdatesSome e
 
-  pub WrittenPatterns : Condition → Patterns → Type 0
-  WrittenPatterns P NoPattern = Unit {0}
-  WrittenPatterns P (MorePattern q qs) = WrittenPattern P q × WrittenPatterns P qs
-
-abbrev mutual
-  pub WrittenExpr : Condition → Condition → Expr → Type 0
-  WrittenExpr P U (Is p l) = Unit {0}
-  WrittenExpr P U (Name x) = Unit {0}
-  WrittenExpr P U (Constructor x) = Unit {0}
-  WrittenExpr P U (OperatorName op) = Unit {0}
-  WrittenExpr P U (Accessor x) = Unit {0}
-  WrittenExpr P U (Lambda p qs e) = WrittenPatterns P qs × WrittenExpr P U e
-  WrittenExpr P U (Apply f es) = WrittenExpr P U f × WrittenExprs P U es
-  WrittenExpr P U (Chain e ps) = WrittenExpr P U e × WrittenParts P U ps
-  WrittenExpr P U (Negate p e) = WrittenExpr P U e
-  WrittenExpr P U (If c a b) = WrittenExpr P U c × (WrittenExpr P U a × WrittenExpr P U b)
-  WrittenExpr P U (Case p e bs) = WrittenExpr P U e × WrittenBranches P U bs
-  WrittenExpr P U (Let ds e) = WrittenDefinitions P U ds × WrittenExpr P U e
-  WrittenExpr P U (ListOf p es) = WrittenExprs P U es
-  WrittenExpr P U (TupleOf p es) = WrittenExprs P U es
-  WrittenExpr P U (RecordOf p fs) = WrittenParts P U fs
-  WrittenExpr P U (Update p r fs) = (U (map name_of (part_words fs)) ≡ true) × WrittenParts P U fs
-  WrittenExpr P U (Access p e xs) = WrittenExpr P U e
-
-  pub WrittenExprs : Condition → Condition → Exprs → Type 0
-  WrittenExprs P U NoExpr = Unit {0}
-  WrittenExprs P U (MoreExpr e es) = WrittenExpr P U e × WrittenExprs P U es
+  pub EachUpdatesSome : Exprs → Type 0
+  EachUpdatesSome NoExpr = Unit {0}
+  EachUpdatesSome (MoreExpr e es) = UpdatesSome e × EachUpdatesSome es
 
   -- the operands of a chain, or the values of fields
-  pub WrittenParts : Condition → Condition → Parts → Type 0
-  WrittenParts P U NoPart = Unit {0}
-  WrittenParts P U (MorePart x e ps) = WrittenExpr P U e × WrittenParts P U ps
+  pub PartsUpdateSome : Parts → Type 0
+  PartsUpdateSome NoPart = Unit {0}
+  PartsUpdateSome (MorePart x e ps) = UpdatesSome e × PartsUpdateSome ps
 
-  pub WrittenBranches : Condition → Condition → Branches → Type 0
-  WrittenBranches P U NoBranch = Unit {0}
-  WrittenBranches P U (MoreBranch q e bs) = WrittenPattern P q × (WrittenExpr P U e × WrittenBranches P U bs)
+  pub BranchesUpdateSome : Branches → Type 0
+  BranchesUpdateSome NoBranch = Unit {0}
+  BranchesUpdateSome (MoreBranch q e bs) = UpdatesSome e × BranchesUpdateSome bs
 
-  pub WrittenDefinitions : Condition → Condition → Definitions → Type 0
-  WrittenDefinitions P U NoDefinition = Unit {0}
-  WrittenDefinitions P U (MoreDefinition d ds) = WrittenDefinition P U d × WrittenDefinitions P U ds
+  pub DefinitionsUpdateSome : Definitions → Type 0
+  DefinitionsUpdateSome NoDefinition = Unit {0}
+  DefinitionsUpdateSome (MoreDefinition d ds) = DefinitionUpdatesSome d × DefinitionsUpdateSome ds
 
-  pub WrittenDefinition : Condition → Condition → Definition → Type 0
-  WrittenDefinition P U (Annotate x t) = Unit {0}
-  WrittenDefinition P U (Define x qs e) = WrittenPatterns P qs × WrittenExpr P U e
-  WrittenDefinition P U (Destructure q e) = WrittenPattern P q × WrittenExpr P U e
+  pub DefinitionUpdatesSome : Definition → Type 0
+  DefinitionUpdatesSome (Annotate x t) = Unit {0}
+  DefinitionUpdatesSome (Define x qs e) = UpdatesSome e
+  DefinitionUpdatesSome (Destructure q e) = UpdatesSome e
 
-abbrev pub WrittenDeclaration : Condition → Condition → Declaration → Type 0
-WrittenDeclaration P U (Value d) = WrittenDefinition P U d
-WrittenDeclaration P U (Port x t) = Unit {0}
-WrittenDeclaration P U (Union x ps cs) = Unit {0}
-WrittenDeclaration P U (Alias x ps t) = Unit {0}
+abbrev pub DeclarationUpdatesSome : Declaration → Type 0
+DeclarationUpdatesSome (Value d) = DefinitionUpdatesSome d
+DeclarationUpdatesSome (Port x t) = Unit {0}
+DeclarationUpdatesSome (Union x ps cs) = Unit {0}
+DeclarationUpdatesSome (Alias x ps t) = Unit {0}
 
-abbrev pub WrittenDeclarations : Condition → Condition → List Declaration → Type 0
-WrittenDeclarations P U ds = AllByRecursion (WrittenDeclaration P U) ds
+abbrev pub DeclarationsUpdateSome : List Declaration → Type 0
+DeclarationsUpdateSome ds = AllByRecursion DeclarationUpdatesSome ds

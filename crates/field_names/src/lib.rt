@@ -1,2 +1,2 @@
-//! Trees whose record patterns and record updates name fields that meet conditions.
+//! Written trees whose record updates name fields.
 #![tactic(auto)]

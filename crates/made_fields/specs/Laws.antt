@@ -7,16 +7,8 @@ use Rattle.module_made.specs.Around.{Around}
 use Rattle.module_made.specs.Made.{Means}
 use Rattle.program_safety.specs.Parts.{AreSome}
 use Rattle.told_modules.specs.Resolved.{DeclarationHasFields}
-use Rattle.field_names.specs.Canonical.{anything, is_some, DeclarationsMeet}
 
--- its record updates name fields
-abbrev pub MadeUpdateSome : Type 0
-MadeUpdateSome =
-    (a : Around) (text : List ℕ) (t : tree.Module) (m : Module) → Means a text t m
-    → DeclarationsMeet anything is_some m.declarations
-
--- where no record pattern in some of its declarations is `{}`
 abbrev pub MadeHaveFields : Type 0
 MadeHaveFields =
     (a : Around) (text : List ℕ) (t : tree.Module) (m : Module) (ds : List Declaration) → Means a text t m
-    → AreSome ds m.declarations → DeclarationsMeet is_some anything ds → AllByRecursion DeclarationHasFields ds
+    → AreSome ds m.declarations → AllByRecursion DeclarationHasFields ds

@@ -1,5 +1,5 @@
 -- What each action makes: where the updates in its values name fields, those in what it makes do.
-use Rattle.std.proofs.Common.{List, [], ◌∷◌, refl}
+use Rattle.std.proofs.Common.{List, [], ◌∷◌}
 use Rattle.std.specs.Prelude.{Option, None, Some}
 use Rattle.std.specs.List.{AllByRecursion}
 use Rattle.elm_lexer.specs.Tokens.{Token}
@@ -12,18 +12,16 @@ use Rattle.elm_grammar.specs.declared.action.Action.{Action}
 use Rattle.elm_grammar.specs.declared.action.Action.TheVariants as action
 use Rattle.elm_grammar.specs.Values.{Rest, Typed, Bodied, AfterMinus, Closed, Operand, takes, gives, act, applied}
 use Rattle.elm_grammar.specs.Values.{chained, bracketed, accessed, record_expr, fields_from, after_minus}
-use Rattle.elm_grammar.specs.Values.{defined, patterns_in}
+use Rattle.elm_grammar.specs.Values.{defined}
 use Rattle.elm_grammar.specs.Meaning.{Things, none, ◌⸴◌, made}
-use Rattle.field_names.specs.Canonical.{anything, is_some}
-use Rattle.field_names.specs.Written.{WrittenDefinition}
-use Rattle.parsed_fields.proofs.Values.{Updates, PartUpdates, RestUpdates, AfterUpdates, HasFields, ItemUpdates}
-use Rattle.parsed_fields.proofs.Values.{ThingUpdates, ThingsUpdate, any_pattern, any_patterns, exprs_update}
-use Rattle.parsed_fields.proofs.Values.{parts_update, branches_update, definitions_update}
+use Rattle.field_names.specs.Written.{UpdatesSome, DefinitionUpdatesSome}
+use Rattle.parsed_fields.proofs.Values.{PartUpdates, RestUpdates, AfterUpdates, HasFields, ItemUpdates, ThingUpdates}
+use Rattle.parsed_fields.proofs.Values.{ThingsUpdate, exprs_update, parts_update, branches_update, definitions_update}
 
 -- ---- expressions
 
 -- of one token
-kind_updates : (k : TokenKind) (t : Token) → Updates (expr_by k t)
+kind_updates : (k : TokenKind) (t : Token) → UpdatesSome (expr_by k t)
 kind_updates (kind.Int n) t = tt
 kind_updates kind.Char t = tt
 kind_updates kind.Text t = tt
@@ -33,47 +31,48 @@ kind_updates kind.Operator t = tt
 kind_updates kind.Field t = tt
 kind_updates _ t = tt
 
-token_updates : (t : Token) → Updates (expr_of t)
+token_updates : (t : Token) → UpdatesSome (expr_of t)
 token_updates t = kind_updates t.kind t
 
-applied_updates : (f : Expr) (es : List Expr) → Updates f → AllByRecursion Updates es → Updates (applied f es)
+applied_updates : (f : Expr) (es : List Expr) → UpdatesSome f → AllByRecursion UpdatesSome es →
+    UpdatesSome (applied f es)
 applied_updates f [] h k = h
 applied_updates f (e ∷ es) h k = (h, exprs_update (e ∷ es) k)
 
-chained_updates : (e : Expr) (ps : List (Word × Expr)) → Updates e → AllByRecursion PartUpdates ps →
-    Updates (chained e ps)
+chained_updates : (e : Expr) (ps : List (Word × Expr)) → UpdatesSome e → AllByRecursion PartUpdates ps →
+    UpdatesSome (chained e ps)
 chained_updates e [] h k = h
 chained_updates e (p ∷ ps) h k = (h, parts_update (p ∷ ps) k)
 
-bracketed_updates : (place : Pos) (es : List Expr) → AllByRecursion Updates es → Updates (bracketed place es)
+bracketed_updates : (place : Pos) (es : List Expr) → AllByRecursion UpdatesSome es → UpdatesSome (bracketed place es)
 bracketed_updates place [] h = tt
 bracketed_updates place (e ∷ []) h = h.0
 bracketed_updates place (e ∷ f ∷ es) h = exprs_update (e ∷ f ∷ es) h
 
-accessed_updates : (place : Pos) (e : Expr) (xs : List Token) → Updates e → Updates (accessed place e xs)
+accessed_updates : (place : Pos) (e : Expr) (xs : List Token) → UpdatesSome e → UpdatesSome (accessed place e xs)
 accessed_updates place e [] h = h
 accessed_updates place e (x ∷ xs) h = h
 
 record_updates : (place : Pos) (b : Option Word) (fs : List (Word × Expr)) → HasFields b fs →
-    AllByRecursion PartUpdates fs → Updates (record_expr place (b, fs))
+    AllByRecursion PartUpdates fs → UpdatesSome (record_expr place (b, fs))
 record_updates place None fs h k = parts_update fs k
 record_updates place (Some r) fs h k = (h, parts_update fs k)
 
-fields_update : (x : Token) (base : List Token) (e : Expr) (fs : List (Word × Expr)) → Updates e →
+fields_update : (x : Token) (base : List Token) (e : Expr) (fs : List (Word × Expr)) → UpdatesSome e →
     AllByRecursion PartUpdates fs → ItemUpdates item.Record (fields_from (word_of x) base e fs)
 fields_update x [] e fs h k = (tt, (h, k))
-fields_update x (y ∷ ys) e fs h k = (refl, (h, k))
+fields_update x (y ∷ ys) e fs h k = (tt, (h, k))
 
-after_updates : (t : Token) (x : AfterMinus) → AfterUpdates x → AllByRecursion Updates (after_minus t x)
+after_updates : (t : Token) (x : AfterMinus) → AfterUpdates x → AllByRecursion UpdatesSome (after_minus t x)
 after_updates t Closed h = (token_updates t, tt)
 after_updates t (Operand e es ps rest) h = (
   chained_updates (applied (Negate (pos_of t) e) es) ps (applied_updates (Negate (pos_of t) e) es h.0 h.1.0) h.1.1.0,
   h.1.1.1,
 )
 
-defined_updates : (x : Token) (r : Rest) → RestUpdates r → WrittenDefinition anything is_some (defined x r)
+defined_updates : (x : Token) (r : Rest) → RestUpdates r → DefinitionUpdatesSome (defined x r)
 defined_updates x (Typed t) h = tt
-defined_updates x (Bodied ps e) h = (any_patterns ps, h)
+defined_updates x (Bodied ps e) h = h
 
 -- ---- actions
 
@@ -111,10 +110,10 @@ made_updates action.NegativeArgument (t ⸴ e ⸴ es ⸴ none) (_, (h, (k, _))) 
 made_updates action.IfOf (t ⸴ c ⸴ u ⸴ x ⸴ v ⸴ y ⸴ none) (_, (h, (_, (k, (_, (m, _)))))) = (h, (k, m))
 made_updates action.CaseOf (t ⸴ e ⸴ o ⸴ bs ⸴ none) (_, (h, (_, (k, _)))) = (h, branches_update bs k)
 made_updates action.LetOf (t ⸴ ds ⸴ u ⸴ e ⸴ none) (_, (k, (_, (h, _)))) = (definitions_update ds k, h)
-made_updates action.LambdaOf (t ⸴ ps ⸴ u ⸴ e ⸴ none) (_, (_, (_, (h, _)))) = (any_patterns (patterns_in ps), h)
+made_updates action.LambdaOf (t ⸴ ps ⸴ u ⸴ e ⸴ none) (_, (_, (_, (h, _)))) = h
 made_updates action.BranchOf (p ⸴ t ⸴ e ⸴ none) (_, (_, (h, _))) = h
 made_updates action.DefinitionOf (x ⸴ d ⸴ none) (_, (k, _)) = defined_updates x d k
-made_updates action.DestructureOf (p ⸴ t ⸴ e ⸴ none) (_, (_, (h, _))) = (any_pattern p.pattern, h)
+made_updates action.DestructureOf (p ⸴ t ⸴ e ⸴ none) (_, (_, (h, _))) = h
 made_updates action.WordExpr (t ⸴ none) h = token_updates t
 made_updates action.WordAccess (t ⸴ xs ⸴ none) h = accessed_updates (pos_of t) (expr_of t) xs (token_updates t)
 made_updates action.BracketAccess (t ⸴ es ⸴ xs ⸴ none) (_, (h, _)) =

@@ -7,7 +7,7 @@ use Rattle.elm_tree.specs.View.{token_view, word_view, words_view, long_view, pl
 use Rattle.elm_tree.specs.Turns.{tokens_view}
 use Rattle.elm_tree.proofs.Views as views
 use Rattle.elm_canon.specs.View.{pattern_view, patterns_view}
-use Rattle.elm_canon.proofs.Views.{list_pattern, pattern_of_tuple, fields_pattern, as_pattern}
+use Rattle.elm_canon.proofs.Views.{list_pattern, pattern_of_tuple, as_pattern}
 use Rattle.std.proofs.lemmas.List.{length-map}
 use Rattle.canon_env.specs.Imports.{name_of}
 use Rattle.canon_env.proofs.Filtering.{pushed, map_map_next}
@@ -188,7 +188,7 @@ pattern-returns-in_ok-names-in-Fields-clause-meaning t c =
     ap (tree_view.pattern_view tokens) c.in-Fields.is ∙ views.fields_pattern tokens c.in-Fields.first c.in-Fields.names in
     IfOk-weaker c.located-in-Fields.result _ _
     (λ p e w h. fields_means w place written xs (pattern_view p) _ c.in_ok-names-in-Fields.names.items whole e
-    (fields_pattern c.in_ok-names-in-Fields.names)
+    c.fields.ensures
     (c.in_ok-names-in-Fields.ensures ∙ ap (λ ws. map name_of (words_view tokens ws)) c.deref-in-Fields.ensures.value))
     c.located-in-Fields.ensures
 

@@ -1,5 +1,5 @@
-use Rattle.made_fields.proofs.Made.{made_updates, made_fields}
+use Rattle.made_fields.proofs.Made.{made_fields}
 use Rattle.made_fields.proofs.laws.made_law.Goals as goal
 
 pub returns : goal.returns
-returns c = record { updates = made_updates; fields = made_fields }
+returns c = made_fields
