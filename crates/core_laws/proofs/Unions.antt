@@ -1,9 +1,12 @@
 -- The unions of the core library, as the table says them: `core_unions_meet`.
-use Rattle.std.proofs.Common.{◌≡◌, pos, negsuc, List, [], ◌∷◌, Bool, true, false, ◌⊎◌, inl, inr, refl, sym, subst}
+use Rattle.std.proofs.Common.{◌≡◌, pos, negsuc, List, [], ◌∷◌, Bool, true, false, ◌⊎◌, inl, inr, refl, sym, ap, subst}
 use Rattle.std.specs.Prelude.{codes}
+use Rattle.std.specs.Str.{bytes_eq}
 use Rattle.elm_canon.specs.declared.unions.Tag.TheVariants.{Number, Truth}
-use Rattle.typed_values.specs.World.{World, Constructor, Among, IsTruth, IsMaybe, IsJust, IsNothing, IsPorted, IsCarrier}
-use Rattle.typed_values.specs.World.{IsBatch, IsNode}
+use Rattle.elm_meaning.specs.Seen.{same_tag}
+use Rattle.typed_values.specs.World.{World, Constructor, Among, IsTruth, IsMaybe, IsJust, IsNothing, IsPorted}
+use Rattle.typed_values.specs.World.{IsCarrier, IsBatch, IsListener, IsNode}
+use Rattle.typed_values.proofs.Names.{not_both}
 use Rattle.program_safety.specs.Programs.{IsWorker, IsProgramMaker}
 use Rattle.core_facts.specs.Table.{bool_union, maybe_union, dict_union, cmd_union, sub_union, program_union}
 use Rattle.core_laws.specs.Unions.{constructors_of, HasCoreUnions, MeetsCore, CoreUnionsMeet}
@@ -120,6 +123,7 @@ module _ (w : World) (h : HasCoreUnions w) where
         (second commands)
         (inl (record { tag_is = refl; other = _; fields_are = refl; message = _; arguments_are = refl }))
         (inr (record { tag_is = refl; fields_are = refl })) c (subst (Among c) h.commands a);
+    listeners = λ e. not_both true refl (ap (λ n. bytes_eq n (codes "Platform.Cmd")) e);
   }
 
   is_subscriptions : IsPorted w (codes "Platform.Sub") (codes "Sub")
@@ -133,6 +137,9 @@ module _ (w : World) (h : HasCoreUnions w) where
         (second subscriptions)
         (inl (record { tag_is = refl; other = _; fields_are = refl; message = _; arguments_are = refl }))
         (inr (record { tag_is = refl; fields_are = refl })) c (subst (Among c) h.subscriptions a);
+    listeners = λ e c a t. both (λ d. d.alternative.tag ≡ Number (pos 0) → IsListener d) (first subscriptions)
+        (second subscriptions) (λ n. (_, _, refl, refl))
+        (λ n. not_both true refl (ap (λ tag. same_tag tag (Number (pos 1))) n)) c (subst (Among c) h.subscriptions a) t;
   }
 
   -- ---- programs

@@ -21,6 +21,7 @@ use Rattle.typed_values.specs.Steps.{StepsKeepTypes}
 use Rattle.typed_values.proofs.Forms.{Tags, Calls, made_form, plain_made, int_value, text_value}
 use Rattle.typed_values.proofs.Makers.{constructed, makes_of, shape_count}
 use Rattle.exhaustive_matches.proofs.Exhaustive.{none_passed}
+use Rattle.typed_values.proofs.Ported.{ported, carriers}
 use Rattle.typed_values.proofs.Truths.{truth_values}
 use Rattle.typed_values.proofs.Calls.{knows_well}
 use Rattle.typed_values.proofs.Operations.{performs, performs_none, fields_well}
@@ -47,6 +48,8 @@ module _ (w : World) (sound : IsSound w) where
     no_function = λ tag vs parts a b made. (let z : Calls ≡ Tags = made_form w sound tag vs parts (function a b) (plain_made w sound tag vs parts (function a b) refl made) in cc);
     constructs = λ u alt k here p f v known d stands sol has. constructed w sound u alt k p f v known d has;
     counts = λ u alt k p known d. shape_count w sound u alt k p (record { values = λ q. int_type; stands = λ r. int_type }) known (makes_of w sound u alt d);
+    ported = ported w sound;
+    carriers = carriers w sound;
     fields = fields_well w sound;
     taken = none_passed w sound;
     getter = getter;

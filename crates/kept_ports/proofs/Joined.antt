@@ -1,4 +1,5 @@
--- What meets two conditions meets a third that follows from both.
+-- What meets a condition, and obeys another, obeys a third that follows from both.
+use Rattle.std.proofs.Common.{inl, inr}
 use Rattle.elm_canon.specs.Unions.{Union}
 use Rattle.elm_canon.specs.declared.unions.Alternative.{Alternative}
 use Rattle.elm_canon.specs.Tree.{Pattern, Anything, Named, As, Exactly, Construct, FieldsOf, LocatedPattern, Patterns}
@@ -8,9 +9,12 @@ use Rattle.elm_canon.specs.Tree.{Located, Exprs, NoExpr, MoreExpr, Branches, NoB
 use Rattle.elm_canon.specs.Tree.{MoreGroup, Group, Together, Constant, Destructure, Functions, NoFunction, MoreFunction}
 use Rattle.canon_mentions.specs.Mentions.{Condition, PatternTakes, PatternsTake, OpBuilds, Mentions, MentionEach}
 use Rattle.canon_mentions.specs.Mentions.{BranchesMention, GroupsMention, GroupMentions, FunctionsMention}
+use Rattle.port_maps.specs.Obeys.{Mapping, Obeys, ObeyEach, BranchesObey, BranchesMap, GroupsObey, GroupObeys}
+use Rattle.port_maps.specs.Obeys.{FunctionsObey}
 
 module _ (P Q R B C D : Condition) (takes : (u : Union) (c : Alternative) → P u c → Q u c → R u c)
-    (builds : (u : Union) (c : Alternative) → B u c → C u c → D u c) where
+    (builds : (u : Union) (c : Alternative) → B u c → C u c → D u c) (M N : Mapping)
+    (maps : (q : Pattern) (e : Expr) (r : Pattern) → PatternTakes P q → PatternTakes P r → M q e r → N q e r) where
   mutual
     pattern : (q : Pattern) → PatternTakes P q → PatternTakes Q q → PatternTakes R q
     pattern Anything f g = tt
@@ -36,7 +40,7 @@ module _ (P Q R B C D : Condition) (takes : (u : Union) (c : Alternative) → P 
   operation (Binary pos op) f g = tt
 
   mutual
-    expression : (e : Expr) → Mentions P B e → Mentions Q C e → Mentions R D e
+    expression : (e : Expr) → Mentions P B e → Obeys Q C M e → Obeys R D N e
     expression (Is l) f g = tt
     expression (NameOf x) f g = tt
     expression (Accessor x) f g = tt
@@ -46,27 +50,40 @@ module _ (P Q R B C D : Condition) (takes : (u : Union) (c : Alternative) → P 
     expression (If c a b) f g = (expression c f.0 g.0, (expression a f.1.0 g.1.0, expression b f.1.1 g.1.1))
     expression (Logical pos op a b) f g = (expression a f.0 g.0, expression b f.1 g.1)
     expression (Let gs e) f g = (groups gs f.0 g.0, expression e f.1 g.1)
-    expression (Case e bs) f g = (expression e f.0 g.0, branches bs f.1 g.1)
+    expression (Case e bs) f g = (
+      expression e f.0 g.0,
+      elim g.1 [
+        | inl all ↦ inl (branches bs f.1 all)
+        | inr map ↦ inr (mapping bs f.1 map)
+      ],
+    )
     expression (Located pos e) f g = expression e f g
 
-    each : (es : Exprs) → MentionEach P B es → MentionEach Q C es → MentionEach R D es
+    each : (es : Exprs) → MentionEach P B es → ObeyEach Q C M es → ObeyEach R D N es
     each NoExpr f g = tt
     each (MoreExpr e es) f g = (expression e f.0 g.0, each es f.1 g.1)
 
-    branches : (bs : Branches) → BranchesMention P B bs → BranchesMention Q C bs → BranchesMention R D bs
+    branches : (bs : Branches) → BranchesMention P B bs → BranchesObey Q C M bs → BranchesObey R D N bs
     branches NoBranch f g = tt
     branches (MoreBranch q e bs) f g = (pattern q f.0 g.0, (expression e f.1.0 g.1.0, branches bs f.1.1 g.1.1))
 
-    groups : (gs : Groups) → GroupsMention P B gs → GroupsMention Q C gs → GroupsMention R D gs
-    groups NoGroup f g = tt
-    groups (MoreGroup h gs) f g = ((f.0.0, group h f.0.1 g.0.1), groups gs f.1 g.1)
+    mapping : (bs : Branches) → BranchesMention P B bs → BranchesMap Q C M bs → BranchesMap R D N bs
+    mapping NoBranch f g = absurd g
+    mapping (MoreBranch q e NoBranch) f g = absurd g
+    mapping (MoreBranch q e (MoreBranch r b NoBranch)) f g =
+        (maps q e r f.0 f.1.1.0 g.0, expression b f.1.1.1.0 g.1)
+    mapping (MoreBranch q e (MoreBranch r b (MoreBranch s c bs))) f g = absurd g
 
-    pub group : (h : Group) → GroupMentions P B h → GroupMentions Q C h → GroupMentions R D h
+    groups : (gs : Groups) → GroupsMention P B gs → GroupsObey Q C M gs → GroupsObey R D N gs
+    groups NoGroup f g = tt
+    groups (MoreGroup h gs) f g = (group h f.0.1 g.0, groups gs f.1 g.1)
+
+    pub group : (h : Group) → GroupMentions P B h → GroupObeys Q C M h → GroupObeys R D N h
     group (Together fs) f g = functions fs f g
     group (Constant title e) f g = expression e f g
     group (Destructure q e) f g = (pattern q f.0 g.0, expression e f.1 g.1)
 
-    functions : (fs : Functions) → FunctionsMention P B fs → FunctionsMention Q C fs → FunctionsMention R D fs
+    functions : (fs : Functions) → FunctionsMention P B fs → FunctionsObey Q C M fs → FunctionsObey R D N fs
     functions NoFunction f g = tt
     functions (MoreFunction title qs e fs) f g =
         ((patterns qs f.0.0 g.0.0, expression e f.0.1 g.0.1), functions fs f.1 g.1)

@@ -1,5 +1,5 @@
 -- Covered sites make resolved expressions simple.
-use Rattle.std.proofs.Common.{◌≡◌, List, [], ◌∷◌, ◌++◌, refl, ap, ◌∙◌}
+use Rattle.std.proofs.Common.{◌≡◌, List, [], ◌∷◌, ◌++◌, inl, inr, refl, ap, ◌∙◌}
 use Rattle.elm_base.specs.declared.position.Pos.{Pos}
 use Rattle.elm_canon.specs.Tree.{Patterns, NoPattern, MorePattern, Expr, Is, NameOf, Accessor, Lambda, Apply}
 use Rattle.elm_canon.specs.Tree.{Strict, If, Logical, Let, Case, Located, Exprs, NoExpr, MoreExpr, Branches, NoBranch}
@@ -8,7 +8,7 @@ use Rattle.elm_canon.specs.Tree.{Functions, NoFunction, MoreFunction, Declaratio
 use Rattle.pattern_check.specs.Missing.{missing}
 use Rattle.type_safety.specs.Modules.{groups_in}
 use Rattle.typed_values.specs.World.{World}
-use Rattle.typed_values.specs.Simple.{TakesAll, Simple, SimpleEach, SimpleBranches, SimpleGroups, SimpleGroup}
+use Rattle.typed_values.specs.Simple.{TakesAll, Simple, SimpleEach, SimpleBranches, SimpleMap, SimpleGroups, SimpleGroup}
 use Rattle.typed_values.specs.Simple.{SimpleFunctions}
 use Rattle.typed_values.specs.Simple as simple
 use Rattle.pattern_faults.specs.Sites as sites
@@ -16,7 +16,7 @@ use Rattle.pattern_faults.specs.Sites.{Site, Choice, Sole, sole_sites, expr_site
 use Rattle.pattern_faults.specs.Sites.{groups_sites, group_sites, functions_sites, declarations_sites, module_sites, start}
 use Rattle.pattern_faults.specs.Laws.{AreCovered}
 use Rattle.pattern_faults.proofs.Covered.{covered}
-use Rattle.pattern_safety.specs.Resolved.{Resolved, ResolvedEach, ResolvedBranches, ResolvedGroups, ResolvedGroup}
+use Rattle.pattern_safety.specs.Resolved.{Resolved, ResolvedEach, ResolvedBranches, ResolvedMap, ResolvedGroups, ResolvedGroup}
 use Rattle.pattern_safety.specs.Resolved.{ResolvedFunctions, FaultlessIsSimple, SimpleIsResolved}
 
 -- ---- covered sites of two lists
@@ -71,8 +71,10 @@ mutual
       let v = Choice here (sites.branch_patterns bs) ∷ branches_sites here bs in
       let k = right u v h in (
         made w here e r.0 (left u v h),
-        made_branches w here bs r.1 k.1,
-        ap missing (same_patterns bs) ∙ k.0.0,
+        elim r.1 [
+          | inl all ↦ inl (made_branches w here bs all k.1, ap missing (same_patterns bs) ∙ k.0.0)
+          | inr maps ↦ inr (made_map w here bs maps k.1)
+        ],
       )
   made w here (Located pos e) r h = made w pos e r h
 
@@ -89,6 +91,14 @@ mutual
       let a = expr_sites here e in
       let b = branches_sites here bs in
       (r.0, made w here e r.1 (left a b h), made_branches w here bs r.2 (right a b h))
+
+  made_map : (w : World) (here : Pos) (bs : Branches) → ResolvedMap w bs → AreCovered (branches_sites here bs) → SimpleMap w bs
+  made_map w here NoBranch r h = absurd r
+  made_map w here (MoreBranch q e NoBranch) r h = absurd r
+  made_map w here (MoreBranch q e (MoreBranch s b NoBranch)) r h =
+      let sites_ = expr_sites here b in
+      (r.0, made w here b r.1 (left sites_ [] (right (expr_sites here e) (sites_ ++ []) h)))
+  made_map w here (MoreBranch q e (MoreBranch s b (MoreBranch t c bs))) r h = absurd r
 
   made_groups : (w : World) (here : Pos) (gs : Groups) → ResolvedGroups w gs → AreCovered (groups_sites here gs) → SimpleGroups w gs
   made_groups w here NoGroup r h = tt
@@ -138,7 +148,7 @@ mutual
   kept w (If c a b) s = (kept w c s.0, kept w a s.1, kept w b s.2)
   kept w (Logical pos op a b) s = (kept w a s.0, kept w b s.1)
   kept w (Let gs e) s = (s.0, s.1, kept_groups w gs s.2, kept w e s.3)
-  kept w (Case e bs) s = (kept w e s.0, kept_branches w bs s.1)
+  kept w (Case e bs) s = (kept w e s.0, elim s.1 [ inl all ↦ inl (kept_branches w bs all.0) | inr maps ↦ inr (kept_map w bs maps) ])
   kept w (Located pos e) s = kept w e s
 
   kept_each : (w : World) (es : Exprs) → SimpleEach w es → ResolvedEach w es
@@ -148,6 +158,12 @@ mutual
   kept_branches : (w : World) (bs : Branches) → SimpleBranches w bs → ResolvedBranches w bs
   kept_branches w NoBranch s = tt
   kept_branches w (MoreBranch q e bs) s = (s.0, kept w e s.1, kept_branches w bs s.2)
+
+  kept_map : (w : World) (bs : Branches) → SimpleMap w bs → ResolvedMap w bs
+  kept_map w NoBranch s = absurd s
+  kept_map w (MoreBranch q e NoBranch) s = absurd s
+  kept_map w (MoreBranch q e (MoreBranch r b NoBranch)) s = (s.0, kept w b s.1)
+  kept_map w (MoreBranch q e (MoreBranch r b (MoreBranch t c bs))) s = absurd s
 
   kept_groups : (w : World) (gs : Groups) → SimpleGroups w gs → ResolvedGroups w gs
   kept_groups w NoGroup s = tt

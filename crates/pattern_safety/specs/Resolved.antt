@@ -1,5 +1,5 @@
 -- What the safety of typed programs asks of expressions, but for what the check of patterns promises.
-use Rattle.std.specs.Prelude.{◌≡◌, [], true}
+use Rattle.std.specs.Prelude.{◌≡◌, [], true, ◌⊎◌}
 use Rattle.elm_canon.specs.Tree.{Expr, Is, NameOf, Accessor, Lambda, Apply, Strict, If, Logical, Let}
 use Rattle.elm_canon.specs.Tree.{Case, Located, Exprs, NoExpr, MoreExpr, Branches, NoBranch, MoreBranch, Groups}
 use Rattle.elm_canon.specs.Tree.{NoGroup, MoreGroup, Group, Together, Constant, Destructure, Functions, NoFunction}
@@ -7,7 +7,8 @@ use Rattle.elm_canon.specs.Tree.{MoreFunction, Module}
 use Rattle.elm_proper.specs.Proper.{count_exprs, has_parameter, is_function}
 use Rattle.type_items.specs.Expressions.{definitions}
 use Rattle.typed_values.specs.World.{World}
-use Rattle.typed_values.specs.Simple.{IsPattern, ArePatterns, IsOperation, AreApart, UseEarlier, SimpleGroups}
+use Rattle.typed_values.specs.Simple.{IsPattern, ArePatterns, IsOperation, MapsPorts, AreApart, UseEarlier}
+use Rattle.typed_values.specs.Simple.{SimpleGroups}
 use Rattle.type_safety.specs.Modules.{groups_in}
 use Rattle.pattern_faults.specs.Faults.{module_faults}
 
@@ -22,7 +23,7 @@ abbrev mutual
   Resolved w (If c a b) = Resolved w c × Resolved w a × Resolved w b
   Resolved w (Logical pos op a b) = Resolved w a × Resolved w b
   Resolved w (Let gs e) = AreApart (definitions gs) × UseEarlier gs × ResolvedGroups w gs × Resolved w e
-  Resolved w (Case e bs) = Resolved w e × ResolvedBranches w bs
+  Resolved w (Case e bs) = Resolved w e × (ResolvedBranches w bs ⊎ ResolvedMap w bs)
   Resolved w (Located pos e) = Resolved w e
 
   pub ResolvedEach : World → Exprs → Type 0
@@ -32,6 +33,12 @@ abbrev mutual
   pub ResolvedBranches : World → Branches → Type 0
   ResolvedBranches w NoBranch = Unit {0}
   ResolvedBranches w (MoreBranch q e bs) = IsPattern w q × Resolved w e × ResolvedBranches w bs
+
+  pub ResolvedMap : World → Branches → Type 0
+  ResolvedMap w NoBranch = ⊥
+  ResolvedMap w (MoreBranch q e NoBranch) = ⊥
+  ResolvedMap w (MoreBranch q e (MoreBranch r b NoBranch)) = MapsPorts w q e r × Resolved w b
+  ResolvedMap w (MoreBranch q e (MoreBranch r b (MoreBranch s c bs))) = ⊥
 
   pub ResolvedGroups : World → Groups → Type 0
   ResolvedGroups w NoGroup = Unit {0}

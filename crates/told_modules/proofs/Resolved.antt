@@ -1,7 +1,6 @@
 -- What names give of expressions is what the safety of typed programs asks, but for the check of patterns.
-use Rattle.std.proofs.Common.{ℕ, List, [], ◌∷◌}
+use Rattle.std.proofs.Common.{ℕ, List, [], ◌∷◌, inl, inr}
 use Rattle.std.specs.List.{AllByRecursion}
-use Rattle.elm_canon.specs.Names.{Name}
 use Rattle.elm_canon.specs.Tree.{Pattern, Anything, Named, As, Exactly, Construct, FieldsOf, LocatedPattern, Patterns}
 use Rattle.elm_canon.specs.Tree.{NoPattern, MorePattern, Op, TupleOf, ListOf, Build, RecordOf, Access, Update, Negate}
 use Rattle.elm_canon.specs.Tree.{Binary, Expr, Is, NameOf, Accessor, Lambda, Apply, Strict, If, Logical, Let, Case}
@@ -13,14 +12,15 @@ use Rattle.elm_proper.specs.Proper.{Scope, with_all, bound_by, all_bound_by, aft
 use Rattle.elm_proper.specs.Proper.{ProperPattern, ProperPatterns, ProperOp, count_exprs, Proper, AllProper}
 use Rattle.elm_proper.specs.Proper.{ProperBranches, ProperGroups, ProperGroup, ProperFunctions}
 use Rattle.elm_proper.specs.Declarations.{ProperDeclarations}
-use Rattle.canon_mentions.specs.Mentions.{PatternTakes, PatternsTake, OpBuilds, Mentions, MentionEach, BranchesMention}
-use Rattle.canon_mentions.specs.Mentions.{GroupsMention, GroupMentions, FunctionsMention, DeclarationsMention}
+use Rattle.canon_mentions.specs.Mentions.{PatternTakes, PatternsTake, OpBuilds}
+use Rattle.port_maps.specs.Obeys.{Obeys, ObeyEach, BranchesObey, BranchesMap, GroupsObey, GroupObeys, FunctionsObey}
+use Rattle.port_maps.specs.Obeys.{DeclarationObeys}
 use Rattle.let_names.specs.Apart.{LetsApart, AllLetsApart, BranchesApart, GroupsApart, GroupApart, FunctionsApart}
 use Rattle.typed_values.specs.World.{World, Declares, Makes}
-use Rattle.typed_values.specs.Simple.{IsPattern, ArePatterns, IsOperation}
+use Rattle.typed_values.specs.Simple.{IsPattern, ArePatterns, IsOperation, MapsPorts}
 use Rattle.type_safety.specs.Modules.{groups_in}
 use Rattle.pattern_safety.specs.Resolved.{Resolved, ResolvedEach, ResolvedBranches, ResolvedGroups, ResolvedGroup}
-use Rattle.pattern_safety.specs.Resolved.{ResolvedFunctions}
+use Rattle.pattern_safety.specs.Resolved.{ResolvedMap, ResolvedFunctions}
 use Rattle.told_modules.specs.Resolved.{PatternHasFields, PatternsHaveFields, OpHasFields, HasFields, EachHasFields}
 use Rattle.told_modules.specs.Resolved.{BranchesHaveFields, GroupsHaveFields, GroupHasFields, FunctionsHaveFields}
 use Rattle.told_modules.specs.Resolved.{DeclarationApart, DeclarationHasFields, ResolvedAreTyped}
@@ -53,8 +53,8 @@ module _ (w : World) where
   operation (Binary pos op) n p b f = p
 
   mutual
-    resolved : (e : Expr) (scope : Scope) → Proper scope e → Mentions (Declares w) (Makes w) e → LetsApart e
-        → HasFields e → Resolved w e
+    resolved : (e : Expr) (scope : Scope) → Proper scope e → Obeys (Declares w) (Makes w) (MapsPorts w) e
+        → LetsApart e → HasFields e → Resolved w e
     resolved (Is l) scope p m a f = tt
     resolved (NameOf x) scope p m a f = tt
     resolved (Accessor x) scope p m a f = tt
@@ -77,18 +77,24 @@ module _ (w : World) where
       groups_resolved gs scope p.0 m.0 a.1.0 f.0,
       resolved e (after gs scope) p.1 m.1 a.1.1 f.1,
     )
-    resolved (Case e bs) scope p m a f =
-        (resolved e scope p.0 m.0 a.0 f.0, branches_resolved bs scope p.1 m.1 a.1 f.1)
+    resolved (Case e bs) scope p m a f = (
+      resolved e scope p.0 m.0 a.0 f.0,
+      elim m.1 [
+        | inl all ↦ inl (branches_resolved bs scope p.1 all a.1 f.1)
+        | inr maps ↦ inr (map_resolved bs scope p.1 maps a.1 f.1)
+      ],
+    )
     resolved (Located pos e) scope p m a f = resolved e scope p m a f
 
-    each_resolved : (es : Exprs) (scope : Scope) → AllProper scope es → MentionEach (Declares w) (Makes w) es
-        → AllLetsApart es → EachHasFields es → ResolvedEach w es
+    each_resolved : (es : Exprs) (scope : Scope) → AllProper scope es
+        → ObeyEach (Declares w) (Makes w) (MapsPorts w) es → AllLetsApart es → EachHasFields es → ResolvedEach w es
     each_resolved NoExpr scope p m a f = tt
     each_resolved (MoreExpr e es) scope p m a f =
         (resolved e scope p.0 m.0 a.0 f.0, each_resolved es scope p.1 m.1 a.1 f.1)
 
     branches_resolved : (bs : Branches) (scope : Scope) → ProperBranches scope bs
-        → BranchesMention (Declares w) (Makes w) bs → BranchesApart bs → BranchesHaveFields bs → ResolvedBranches w bs
+        → BranchesObey (Declares w) (Makes w) (MapsPorts w) bs → BranchesApart bs → BranchesHaveFields bs
+        → ResolvedBranches w bs
     branches_resolved NoBranch scope p m a f = tt
     branches_resolved (MoreBranch q e bs) scope p m a f = (
       pattern_is q p.0.0 m.0 f.0,
@@ -96,16 +102,26 @@ module _ (w : World) where
       branches_resolved bs scope p.1.1 m.1.1 a.1 f.1.1,
     )
 
-    groups_resolved : (gs : Groups) (scope : Scope) → ProperGroups scope gs → GroupsMention (Declares w) (Makes w) gs
-        → GroupsApart gs → GroupsHaveFields gs → ResolvedGroups w gs
+    map_resolved : (bs : Branches) (scope : Scope) → ProperBranches scope bs
+        → BranchesMap (Declares w) (Makes w) (MapsPorts w) bs → BranchesApart bs → BranchesHaveFields bs
+        → ResolvedMap w bs
+    map_resolved NoBranch scope p m a f = absurd m
+    map_resolved (MoreBranch q e NoBranch) scope p m a f = absurd m
+    map_resolved (MoreBranch q e (MoreBranch r b NoBranch)) scope p m a f =
+        (m.0, resolved b (with_all (bound_by r) scope) p.1.1.1.0 m.1 a.1.0 f.1.1.1.0)
+    map_resolved (MoreBranch q e (MoreBranch r b (MoreBranch s c bs))) scope p m a f = absurd m
+
+    groups_resolved : (gs : Groups) (scope : Scope) → ProperGroups scope gs
+        → GroupsObey (Declares w) (Makes w) (MapsPorts w) gs → GroupsApart gs → GroupsHaveFields gs
+        → ResolvedGroups w gs
     groups_resolved NoGroup scope p m a f = tt
     groups_resolved (MoreGroup g gs) scope p m a f = (
-      group_resolved g scope p.0 m.0.1 a.0 f.0,
+      group_resolved g scope p.0 m.0 a.0 f.0,
       groups_resolved gs (with_all (group_names g) scope) p.1 m.1 a.1 f.1,
     )
 
-    group_resolved : (g : Group) (scope : Scope) → ProperGroup scope g → GroupMentions (Declares w) (Makes w) g
-        → GroupApart g → GroupHasFields g → ResolvedGroup w g
+    group_resolved : (g : Group) (scope : Scope) → ProperGroup scope g
+        → GroupObeys (Declares w) (Makes w) (MapsPorts w) g → GroupApart g → GroupHasFields g → ResolvedGroup w g
     group_resolved (Together fs) scope p m a f =
         functions_resolved fs (with_all (function_names fs) scope) p.1 m a f
     group_resolved (Constant title e) scope p m a f = resolved e scope p.1.1 m a f
@@ -113,7 +129,7 @@ module _ (w : World) where
         (pattern_is q p.0.0 m.0 f.0, resolved e scope p.1 m.1 a f.1)
 
     functions_resolved : (fs : Functions) (scope : Scope) → ProperFunctions scope fs
-        → FunctionsMention (Declares w) (Makes w) fs → FunctionsApart fs → FunctionsHaveFields fs
+        → FunctionsObey (Declares w) (Makes w) (MapsPorts w) fs → FunctionsApart fs → FunctionsHaveFields fs
         → ResolvedFunctions w fs
     functions_resolved NoFunction scope p m a f = tt
     functions_resolved (MoreFunction title qs e fs) scope p m a f = (
@@ -125,15 +141,15 @@ module _ (w : World) where
       functions_resolved fs scope p.1.1.1.1 m.1 a.1 f.1,
     )
 
-  declared_resolved : (home : Name) (ds : List Declaration) (scope : Scope) → ProperDeclarations scope ds
-      → DeclarationsMention (Declares w) (Makes w) home ds → AllByRecursion DeclarationApart ds
+  declared_resolved : (ds : List Declaration) (scope : Scope) → ProperDeclarations scope ds
+      → AllByRecursion (DeclarationObeys (Declares w) (Makes w) (MapsPorts w)) ds → AllByRecursion DeclarationApart ds
       → AllByRecursion DeclarationHasFields ds → ResolvedGroups w (groups_in ds)
-  declared_resolved home [] scope p m a f = tt
-  declared_resolved home (Given r k ∷ ds) scope p m a f = declared_resolved home ds (r ∷ scope) p.1 m.1 a.1 f.1
-  declared_resolved home (Define g ∷ ds) scope p m a f = (
-    group_resolved g scope p.0.1 m.0.1 a.0 f.0,
-    declared_resolved home ds (with_all (group_names g) scope) p.1 m.1 a.1 f.1,
+  declared_resolved [] scope p m a f = tt
+  declared_resolved (Given r k ∷ ds) scope p m a f = declared_resolved ds (r ∷ scope) p.1 m.1 a.1 f.1
+  declared_resolved (Define g ∷ ds) scope p m a f = (
+    group_resolved g scope p.0.1 m.0 a.0 f.0,
+    declared_resolved ds (with_all (group_names g) scope) p.1 m.1 a.1 f.1,
   )
 
 pub resolved_typed : ResolvedAreTyped
-resolved_typed w home ds is = declared_resolved w home ds is.scope is.proper is.mentions is.apart is.fields
+resolved_typed w ds is = declared_resolved w ds is.scope is.proper is.obey is.apart is.fields

@@ -1,7 +1,6 @@
 -- What names give of expressions, but for what the check of patterns promises.
 use Rattle.std.specs.Prelude.{List}
 use Rattle.std.specs.List.{AllByRecursion}
-use Rattle.elm_canon.specs.Names.{Name}
 use Rattle.elm_canon.specs.Tree.{Pattern, Anything, Named, As, Exactly, Construct, FieldsOf, LocatedPattern, Patterns}
 use Rattle.elm_canon.specs.Tree.{NoPattern, MorePattern, Op, TupleOf, ListOf, Build, RecordOf, Access, Update, Negate}
 use Rattle.elm_canon.specs.Tree.{Binary, Expr, Is, NameOf, Accessor, Lambda, Apply, Strict, If, Logical, Let, Case}
@@ -11,10 +10,10 @@ use Rattle.elm_canon.specs.Tree.{Group, Together, Constant, Destructure, Functio
 use Rattle.elm_canon.specs.Tree.{Declaration, Given, Define}
 use Rattle.elm_proper.specs.Proper.{Scope}
 use Rattle.elm_proper.specs.Declarations.{ProperDeclarations}
-use Rattle.canon_mentions.specs.Mentions.{DeclarationsMention}
+use Rattle.port_maps.specs.Obeys.{DeclarationObeys}
 use Rattle.let_names.specs.Apart.{GroupApart}
 use Rattle.typed_values.specs.World.{World, Declares, Makes}
-use Rattle.typed_values.specs.Simple.{IsSome}
+use Rattle.typed_values.specs.Simple.{IsSome, MapsPorts}
 use Rattle.type_safety.specs.Modules.{groups_in}
 use Rattle.pattern_safety.specs.Resolved.{ResolvedGroups}
 
@@ -90,13 +89,13 @@ DeclarationHasFields (Define g) = GroupHasFields g
 
 -- Declarations that are proper in order. What they take apart and build are constructors of the world's unions, and the
 -- names that the definitions of a `let` bind inside are none of its own.
-pub record AreResolved (w : World) (home : Name) (ds : List Declaration) : Type 0 where
+pub record AreResolved (w : World) (ds : List Declaration) : Type 0 where
   pub scope : Scope
   pub proper : ProperDeclarations scope ds
-  pub mentions : DeclarationsMention (Declares w) (Makes w) home ds
+  pub obey : AllByRecursion (DeclarationObeys (Declares w) (Makes w) (MapsPorts w)) ds
   pub apart : AllByRecursion DeclarationApart ds
   pub fields : AllByRecursion DeclarationHasFields ds
 
 abbrev pub ResolvedAreTyped : Type 0
 ResolvedAreTyped =
-    (w : World) (home : Name) (ds : List Declaration) → AreResolved w home ds → ResolvedGroups w (groups_in ds)
+    (w : World) (ds : List Declaration) → AreResolved w ds → ResolvedGroups w (groups_in ds)

@@ -9,6 +9,7 @@ pub mod Annotated
 pub mod Lets
 pub mod Destructured
 -- whole expressions
+pub mod Mapped
 pub mod Progress
 -- whole modules
 pub mod Modules

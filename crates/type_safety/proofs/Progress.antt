@@ -35,7 +35,7 @@ use Rattle.typed_values.specs.Frames.{Frame, of, Stands}
 use Rattle.typed_values.specs.World.{KnownIn, World, Knows, sent_type}
 use Rattle.typed_values.specs.Simple.{Without}
 use Rattle.typed_values.specs.Typed.{EndsWell, or_named, bind_from, IsChecked, Has, HasEach, Fits}
-use Rattle.typed_values.specs.Simple.{IsPattern, IsOperation, Takes, branch_patterns, Simple, SimpleEach, SimpleBranches, SimpleGroups, SimpleGroup}
+use Rattle.typed_values.specs.Simple.{IsPattern, IsOperation, Takes, branch_patterns, Simple, SimpleEach, SimpleBranches, SimpleMap, SimpleGroups, SimpleGroup}
 use Rattle.typed_values.specs.Exhaustive.{IsPatternOf}
 use Rattle.typed_values.specs.Steps.{IfMatched, StepsKeepTypes}
 use Rattle.typed_values.proofs.Names.{not_both, not_or, all_left, all_right, solves_left, solves_right}
@@ -62,6 +62,7 @@ use Rattle.type_items.specs.Scopes.{Instance}
 use Rattle.type_items.specs.Modules.{known_in, module_scope, module_definitions, module_items}
 use Rattle.type_safety.specs.Modules.{groups_in, given_in, IsTyped, AreTyped, AreTitled, before_own, UseGivenBefore, IsPlain}
 use Rattle.type_safety.specs.Modules.{scope_after}
+use Rattle.type_safety.proofs.Mapped.{mapped_good}
 use Rattle.type_safety.proofs.Modules.{GivenServes, Instances, declared_definitions}
 use Rattle.type_safety.proofs.Lets.{same_before}
 use Rattle.type_safety.proofs.Transfers.{fits_shown}
@@ -455,9 +456,14 @@ module _ (W : World) (steps : StepsKeepTypes W) where
           let js = branch_items bs S here (child p 1) 0 t w in
           then_well (λ v. Has W v (of a t)) (λ v. Has W v (of a w)) (eval_with call e env) (λ v. choose_with call bs v env)
           (eval_good e env U S a here (child p 0) t simple.0 bare (all_left (λ x. U x ≡ false) (used e) (used_branches bs) free) f (solves_left a is js sol)) (λ v has.
-          elim (choose_good bs v env U S a here (child p 1) 0 t w simple.1 bare (all_right (λ x. U x ≡ false) (used e) (used_branches bs) free) f (solves_right a is js sol) has) as (λ _. Good (choose_with call bs v env) (of a w)) [
-            | inl good ↦ good
-            | inr passed ↦ absurd (steps.taken (branch_patterns bs) v (of a t) env (branches_typed W bs S a here (child p 1) 0 t w simple.1 bare (fits_known W env U S a f) (solves_right a is js sol)) simple.2 has passed)
+          let free_bs = all_right (λ x. U x ≡ false) (used e) (used_branches bs) free in
+          let asked = solves_right a is js sol in
+          elim simple.1 as (λ _. Good (choose_with call bs v env) (of a w)) [
+            | inl all ↦ elim (choose_good bs v env U S a here (child p 1) 0 t w all.0 bare free_bs f asked has) as (λ _. Good (choose_with call bs v env) (of a w)) [
+              | inl good ↦ good
+              | inr passed ↦ absurd (steps.taken (branch_patterns bs) v (of a t) env (branches_typed W bs S a here (child p 1) 0 t w all.0 bare (fits_known W env U S a f) asked) all.1 has passed)
+            ]
+            | inr maps ↦ map_good bs v env U S a here (child p 1) t w maps bare free_bs f asked has
           ])
       eval_good (Located pos e) env U S a here p w simple bare free f sol = eval_good e env U S a pos p w simple bare free f sol
 
@@ -571,6 +577,22 @@ module _ (W : World) (steps : StepsKeepTypes W) where
           then_well (λ vs. HasEach W vs (of a l.first ∷ map (of a) l.rest)) (λ v. Has W v (of a w)) (evals_with call (MoreExpr e es) env) (λ vs. perform op vs) parts
           (λ vs all. steps.performs op (count_exprs es) S here p w a vs (fits_known W env U S a f) proper bare
           (record { before = solves_left a l.before (is ++ (l.between ++ (js ++ l.after))) sol; between = solves_left a l.between (js ++ l.after) r2; after = solves_right a js l.after r3 }) all)
+
+      map_good : (bs : Branches) (v : Value) (env : Env) (U : Ref → Bool) (S : Scope) (a : Frame) (here : Pos) (p : Place) (t w : Wanted) → SimpleMap W bs → Stands a
+          → Without U (used_branches bs) → Fits W env U S a → Solves a.values (branch_items bs S here p 0 t w) → Has W v (of a t) → Good (choose_with call bs v env) (of a w)
+      map_good NoBranch v env U S a here p t w maps bare free f sol has = absurd maps
+      map_good (MoreBranch q e NoBranch) v env U S a here p t w maps bare free f sol has = absurd maps
+      map_good (MoreBranch q e (MoreBranch r b NoBranch)) v env U S a here p t w maps bare free f sol has =
+          let inner = bind_pattern r (child (child p 1) 0) t S in
+          let is = pattern_items q S.known here (child (child p 0) 0) t in
+          let js = items e (bind_pattern q (child (child p 0) 0) t S) here (child (child p 0) 1) w in
+          let ks = pattern_items r S.known here (child (child p 1) 0) t in
+          let ls = items b inner here (child (child p 1) 1) w in
+          let rest = solves_right a ks (ls ++ []) (solves_right a js (ks ++ (ls ++ [])) (solves_right a is (js ++ (ks ++ (ls ++ []))) sol)) in
+          let free_b : Without U (used b) = all_left (λ x. U x ≡ false) (used b) [] (all_right (λ x. U x ≡ false) (used e) (used b ++ []) free) in
+          mapped_good W steps call q e r b env U S a bare (all_left (λ x. U x ≡ false) (used e) (used b ++ []) free) f here p t w sol maps.0 v has
+          (λ env2 g. eval_good b env2 U inner a here (child (child p 1) 1) w maps.1 bare free_b g (solves_left a ls [] rest))
+      map_good (MoreBranch q e (MoreBranch r b (MoreBranch s c bs))) v env U S a here p t w maps bare free f sol has = absurd maps
 
       choose_good : (bs : Branches) (v : Value) (env : Env) (U : Ref → Bool) (S : Scope) (a : Frame) (here : Pos) (p : Place) (i : ℕ) (t w : Wanted) → SimpleBranches W bs → Stands a → Without U (used_branches bs) → Fits W env U S a
           → Solves a.values (branch_items bs S here p i t w) → Has W v (of a t) → Good (choose_with call bs v env) (of a w) ⊎ PassOver bs v env

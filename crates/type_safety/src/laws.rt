@@ -14,7 +14,7 @@ pub fn group_law()
 /// Where the unions of a program are as they are declared, an expression whose items are solved is not Stuck, with any
 /// fuel, and its value has the type that is wanted of it. It is said of expressions of whose branches, parameters and
 /// destructured patterns nothing is reported missing, whose `let`s define each name once, and whose definitions use
-/// what is bound before them. They take no command or subscription apart.
+/// what is bound before them. They take commands and subscriptions apart as their `map` does, and not otherwise.
 pub fn expression_law()
     ensures { ExpressionsKeepTypes }
 {}

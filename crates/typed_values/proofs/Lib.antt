@@ -18,6 +18,7 @@ pub mod Makers
 -- what goes out at ports
 pub mod Sent
 pub mod Comparing
+pub mod Ported
 pub mod Truths
 pub mod Written
 pub mod Calls

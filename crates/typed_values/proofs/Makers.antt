@@ -222,7 +222,7 @@ module _ (w : World) (sound : IsSound w) where
 
   -- ---- patterns
 
-  one_of : (tag : Tag) (vs : Values) (c : Constructor) (cs : List Constructor) → Among c cs → is_of tag vs c.alternative ≡ true → is_of_one tag vs (map (λ d. d.alternative) cs) ≡ true
+  pub one_of : (tag : Tag) (vs : Values) (c : Constructor) (cs : List Constructor) → Among c cs → is_of tag vs c.alternative ≡ true → is_of_one tag vs (map (λ d. d.alternative) cs) ≡ true
   one_of tag vs c [] among e = absurd among
   one_of tag vs c (d ∷ cs) (inl same) e =
       or_left (is_of tag vs d.alternative) (is_of_one tag vs (map (λ d. d.alternative) cs)) (ap (λ z. is_of tag vs z.alternative) (sym same) ∙ e)

@@ -10,7 +10,7 @@ use Rattle.elm_meaning.specs.Seen.{same_tag, same_kind}
 use Rattle.elm_type.specs.Types.{Scheme, Free, variable, function, functions, named, variables}
 use Rattle.type_items.specs.Scopes.{Known}
 use Rattle.typed_values.specs.Payloads.{cmd_type, sub_type}
-use Rattle.typed_values.specs.World.{World, KnownIn, Constructor, is_negative, Among, IsOneOf, IsJust, IsNothing, IsCarrier, IsBatch, IsSound, made_type}
+use Rattle.typed_values.specs.World.{World, KnownIn, Constructor, is_negative, Among, IsOneOf, IsJust, IsNothing, IsCarrier, IsBatch, IsListener, IsSound, made_type}
 use Rattle.typed_values.specs.Sample.{truth_maker, just_maker, nothing_maker, send_maker, listen_maker, batch_maker, sample_bools, sample_maybes, sample_commands, sample_subscriptions, is_at, sample_unions, sample_known, maker_scheme, sample}
 use Rattle.typed_values.proofs.Names.{not_both}
 use Rattle.typed_values.proofs.Keeping.{and_left, and_right}
@@ -174,10 +174,13 @@ sound_with w others same o = subst (λ u. IsSound (record { known = w.known; uni
   commands = record {
     carrier = (send_maker, inl refl, is_send);
     others = both (λ c. IsCarrier c ⊎ IsBatch (codes "Platform.Cmd") (codes "Cmd") c) send_maker (batch_maker (cmd_type (variable (Free 0)))) (inl is_send) (inr (record { tag_is = refl; fields_are = refl }));
+    listeners = λ e. not_both true refl (ap (λ n. bytes_eq n (codes "Platform.Cmd")) e);
   };
   subscriptions = record {
     carrier = (listen_maker, inl refl, is_listen);
     others = both (λ c. IsCarrier c ⊎ IsBatch (codes "Platform.Sub") (codes "Sub") c) listen_maker (batch_maker (sub_type (variable (Free 0)))) (inl is_listen) (inr (record { tag_is = refl; fields_are = refl }));
+    listeners = λ e c among t. both (λ d. d.alternative.tag ≡ Number (pos 0) → IsListener d) listen_maker (batch_maker (sub_type (variable (Free 0))))
+        (λ _. (named (codes "Platform.Sub") (codes "Payload") [], 0, refl, refl)) (λ n. not_both true refl (ap (λ tag. same_tag tag (Number (pos 1))) n)) c among t;
   };
 })
   where

@@ -1,5 +1,5 @@
 -- The expressions whose types are followed so far.
-use Rattle.std.specs.Prelude.{◌≡◌, ℕ, suc, length, List, [], ◌∷◌, Bool, true, false, ◌||◌, None}
+use Rattle.std.specs.Prelude.{◌≡◌, ℕ, suc, length, List, [], ◌∷◌, Bool, true, false, ◌||◌, None, ◌⊎◌, codes}
 use Rattle.std.specs.List.{AllByRecursion}
 use Rattle.elm_canon.specs.Names.{Name}
 use Rattle.elm_canon.specs.declared.reference.Ref.{Ref}
@@ -14,7 +14,8 @@ use Rattle.type_items.specs.Uses.{used, used_functions}
 use Rattle.type_items.specs.Definitions.{Definition}
 use Rattle.type_items.specs.Expressions.{definitions}
 use Rattle.pattern_check.specs.Missing.{missing}
-use Rattle.typed_values.specs.World.{World, Declares, Makes}
+use Rattle.port_maps.specs.Maps.{Carrying, Rebuilds, IsSame, IsAfter}
+use Rattle.typed_values.specs.World.{World, Declares, Makes, Holds}
 
 -- none of the names is hidden
 abbrev pub Without : (Ref → Bool) → List Ref → Type 0
@@ -91,7 +92,20 @@ UseEarlier (MoreGroup (Constant title e) gs) =
 UseEarlier (MoreGroup (Destructure q e) gs) =
     Without (defines (definitions (MoreGroup (Destructure q e) gs))) (used e) × UseEarlier gs
 
--- ---- expressions: constructors are those of their unions, and branches leave nothing out
+-- ---- `map` of commands and of subscriptions
+
+-- the constructors are those of the union
+abbrev pub RebuildsIn : World → Name → Name → Carrying → Pattern → Expr → Pattern → Type 0
+RebuildsIn w m x Again q e r =
+    (i : Rebuilds m x Again q e r) × Holds w m x i.constructors i.carrier × Holds w m x i.constructors i.batch
+
+-- the first branch, with its body, and the pattern of the second
+abbrev pub MapsPorts : World → Pattern → Expr → Pattern → Type 0
+MapsPorts w q e r =
+    RebuildsIn w (codes "Platform.Cmd") (codes "Cmd") IsSame q e r
+    ⊎ RebuildsIn w (codes "Platform.Sub") (codes "Sub") IsAfter q e r
+
+-- ---- expressions: constructors are those of their unions, and branches leave nothing out or are those of a `map`
 
 abbrev mutual
   pub Simple : World → Expr → Type 0
@@ -104,7 +118,8 @@ abbrev mutual
   Simple w (If c a b) = Simple w c × Simple w a × Simple w b
   Simple w (Logical pos op a b) = Simple w a × Simple w b
   Simple w (Let gs e) = AreApart (definitions gs) × UseEarlier gs × SimpleGroups w gs × Simple w e
-  Simple w (Case e bs) = Simple w e × SimpleBranches w bs × (missing (branch_patterns bs) ≡ None)
+  Simple w (Case e bs) =
+      Simple w e × ((SimpleBranches w bs × (missing (branch_patterns bs) ≡ None)) ⊎ SimpleMap w bs)
   Simple w (Located pos e) = Simple w e
 
   pub SimpleEach : World → Exprs → Type 0
@@ -114,6 +129,12 @@ abbrev mutual
   pub SimpleBranches : World → Branches → Type 0
   SimpleBranches w NoBranch = Unit {0}
   SimpleBranches w (MoreBranch q e bs) = IsPattern w q × Simple w e × SimpleBranches w bs
+
+  pub SimpleMap : World → Branches → Type 0
+  SimpleMap w NoBranch = ⊥
+  SimpleMap w (MoreBranch q e NoBranch) = ⊥
+  SimpleMap w (MoreBranch q e (MoreBranch r b NoBranch)) = MapsPorts w q e r × Simple w b
+  SimpleMap w (MoreBranch q e (MoreBranch r b (MoreBranch s c bs))) = ⊥
 
   pub SimpleGroups : World → Groups → Type 0
   SimpleGroups w NoGroup = Unit {0}

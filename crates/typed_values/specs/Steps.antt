@@ -1,31 +1,33 @@
 -- Each single step of evaluation keeps types.
-use Rattle.std.specs.Prelude.{◌≡◌, ℕ, suc, List, [], ◌∷◌, length, map, Bool, true, Option, Some, None, ◌⊎◌}
+use Rattle.std.specs.Prelude.{◌≡◌, ℕ, suc, pos, List, [], ◌∷◌, length, map, Bool, true, Option, Some, None, ◌⊎◌}
+use Rattle.std.specs.Prelude.{codes}
 use Rattle.std.specs.List.{AllByRecursion}
 use Rattle.elm_base.specs.declared.position.Pos.{Pos}
 use Rattle.runs.specs.Ends.{End, Val}
 use Rattle.elm_canon.specs.Names.{Name}
 use Rattle.elm_canon.specs.declared.reference.Ref.{Ref}
 use Rattle.elm_canon.specs.declared.unions.Tag.{Tag}
+use Rattle.elm_canon.specs.declared.unions.Tag.TheVariants.{Number}
 use Rattle.elm_canon.specs.declared.unions.Alternative.{Alternative}
 use Rattle.elm_canon.specs.declared.tree.Literal.{Literal}
-use Rattle.elm_canon.specs.Unions.{Union, alternatives}
+use Rattle.elm_canon.specs.Unions.{Union, Declared, alternatives}
 use Rattle.elm_canon.specs.Tree.{Pattern, FieldsOf, Op}
 use Rattle.elm_meaning.specs.Functions.{Bodiless, Getter}
-use Rattle.elm_meaning.specs.Values.{Value, TagV, Values, NoValue, MoreValue, Env, truth, append_values}
+use Rattle.elm_meaning.specs.Values.{Value, TextV, TagV, Values, NoValue, MoreValue, Env, truth, append_values}
 use Rattle.elm_meaning.specs.Match.{matches, is_literal, is_of, is_of_one}
 use Rattle.elm_meaning.specs.Operate.{perform}
 use Rattle.elm_meaning.specs.Primitives.{known}
-use Rattle.elm_type.specs.Types.{MoreField, NoField, function, bool_type}
+use Rattle.elm_type.specs.Types.{MoreField, NoField, function, named, bool_type, string_type}
 use Rattle.elm_type.specs.Classes.{Ground}
 use Rattle.elm_type.specs.Rows.{extend}
 use Rattle.ground_types.specs.Ground.{lacks}
 use Rattle.type_items.specs.Items.{Place, Wanted}
 use Rattle.type_items.specs.Scopes.{Known, Scope}
-use Rattle.type_items.specs.Patterns.{shape, shape_items, literal_type, pattern_items, bind_pattern}
+use Rattle.type_items.specs.Patterns.{Shape, shape, shape_items, literal_type, pattern_items, bind_pattern}
 use Rattle.type_items.specs.Operations.{Plan, plan}
 use Rattle.type_items.specs.Solutions.{Solves}
 use Rattle.typed_values.specs.Frames.{Frame, of, Stands}
-use Rattle.typed_values.specs.World.{KnownIn, World, Declares, MadeBy, OfPort, Knows}
+use Rattle.typed_values.specs.World.{KnownIn, World, is_ported, Declares, Holds, MadeBy, OfPort, Sends, Listens, Knows}
 use Rattle.typed_values.specs.Typed.{EndsWell, Has, HasEach, Fits}
 use Rattle.pattern_check.specs.Missing.{missing}
 use Rattle.typed_values.specs.Exhaustive.{IsPatternOf}
@@ -40,6 +42,38 @@ pub record Constructed (w : World) (u : Union) (alt : Alternative) (parts : List
   pub is : v ≡ TagV tag fields
   pub one : is_of_one tag fields (alternatives u) ≡ true
   pub of_this : is_of tag fields alt ≡ true → HasEach w fields parts
+
+-- ---- commands and subscriptions
+
+-- a port made it
+pub record MadeByPort (w : World) (g : Ground) (v : Value) : Type 0 where
+  pub port : Name
+  pub inner : Value
+  pub carried : Ground
+  pub is : v ≡ TagV (Number (pos 0)) (MoreValue (TextV port) (MoreValue inner NoValue))
+  pub has : Has w inner carried
+  pub carries : Sends port carried g ⊎ Listens w port carried g
+
+-- a batch, whose constructor is this alternative of these, with fields of these types
+pub record Batched (w : World) (cs : List Alternative) (batch : Alternative) (parts : List Ground) (v : Value) : Type 0
+  where
+    pub fields : Values
+    pub is : v ≡ TagV (Number (pos 1)) fields
+    pub one : is_of_one (Number (pos 1)) fields cs ≡ true
+    pub this : is_of (Number (pos 1)) fields batch ≡ true
+    pub has : HasEach w fields parts
+
+-- the types of the constructor of a union m.x by which ports make its values, and what its values are
+pub record Carries (m x : Name) (cs : List Alternative) (carrier : Alternative) (f : Frame) (s : Shape) : Type 0 where
+  pub message : Ground
+  pub carried : Ground
+  pub parts_are : map (of f) s.parts ≡ string_type ∷ carried ∷ []
+  pub result_is : of f s.result ≡ named m x (message ∷ [])
+  pub listens : m ≡ codes "Platform.Sub" → (received : Ground) × (carried ≡ function received message)
+  pub one : (u v : Value) → is_of_one (Number (pos 0)) (MoreValue u (MoreValue v NoValue)) cs ≡ true
+  pub this : (u v : Value) → is_of (Number (pos 0)) (MoreValue u (MoreValue v NoValue)) carrier ≡ true
+
+-- ---- ends
 
 -- if there is an environment, it is such
 abbrev pub IfMatched : (Env → Type 0) → Option Env → Type 0
@@ -72,6 +106,15 @@ pub record StepsKeepTypes (w : World) : Type 0 where
       → Has w v (of f (shape u alt k p).result) → Constructed w u alt (map (of f) (shape u alt k p).parts) v
   pub counts : (u : Union) (alt : Alternative) (k : Known) (p : Place) → KnownIn w k → Declares w u alt
       → length (shape u alt k p).parts ≡ alt.arity
+  -- commands and subscriptions: a port made it, or it is a batch
+  pub ported : (m x : Name) (cs : List Alternative) (batch : Alternative) (k : Known) (p : Place) (f : Frame)
+      (v : Value) → KnownIn w k → is_ported m x ≡ true → Holds w m x cs batch → batch.tag ≡ Number (pos 1)
+      → Has w v (of f (shape (Declared m x cs) batch k p).result)
+      → MadeByPort w (of f (shape (Declared m x cs) batch k p).result) v
+      ⊎ Batched w cs batch (map (of f) (shape (Declared m x cs) batch k p).parts) v
+  pub carriers : (m x : Name) (cs : List Alternative) (carrier : Alternative) (k : Known) (p : Place) (f : Frame)
+      → KnownIn w k → is_ported m x ≡ true → Holds w m x cs carrier → carrier.tag ≡ Number (pos 0)
+      → Carries m x cs carrier f (shape (Declared m x cs) carrier k p)
   -- what the pattern of a record binds
   pub fields : (xs : List Name) (here : Pos) (p : Place) (t : Wanted) (f : Frame) (v : Value) (env : Env)
       (hidden : Ref → Bool) (scope : Scope) → AreFields xs → Stands f

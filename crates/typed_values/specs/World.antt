@@ -54,7 +54,8 @@ abbrev pub Among : {X : Type 0} → X → List X → Type 0
 Among x [] = ⊥
 Among x (y ∷ ys) = (x ≡ y) ⊎ Among x ys
 
--- Commands and subscriptions: what has the number 0 is made by ports alone, and no pattern takes them apart.
+-- Commands and subscriptions: what has the number 0 is made by ports alone, and no pattern takes them apart, but those
+-- of their `map`.
 abbrev pub is_ported : Name → Name → Bool
 is_ported m x =
     (bytes_eq m (codes "Platform.Cmd") && bytes_eq x (codes "Cmd"))
@@ -69,6 +70,12 @@ Makes w (TupleUnion n) alt = alt ≡ tuple_alternative n
 Makes w ListUnion alt = (alt ≡ nil_alternative) ⊎ (alt ≡ cons_alternative)
 Makes w (Declared m x cs) alt =
     (c : Constructor) × Among c (w.unions m x) × (c.alternative ≡ alt) × (is_port_tag m x alt.tag ≡ false)
+
+-- the alternative is one of the union, as this is declared
+abbrev pub Holds : World → Name → Name → List Alternative → Alternative → Type 0
+Holds w m x cs alt =
+    (cs ≡ map (λ (c : Constructor). c.alternative) (w.unions m x))
+    × (c : Constructor) × Among c (w.unions m x) × (c.alternative ≡ alt)
 
 -- the alternative is one of the union, as this is declared, and texts may take it apart
 abbrev pub Declares : World → Union → Alternative → Type 0
@@ -266,9 +273,18 @@ pub record IsBatch (m x : Name) (c : Constructor) : Type 0 where
   pub tag_is : c.alternative.tag ≡ Number (pos 1)
   pub fields_are : c.fields ≡ list_type (made_type m x c) ∷ []
 
+-- a function that makes the message
+abbrev pub IsListener : Constructor → Type 0
+IsListener c =
+    (received : ElmType (Leaf ℕ)) × (i : ℕ) × (c.arguments ≡ i ∷ [])
+    × (c.fields ≡ string_type ∷ function received (variable (Free i)) ∷ [])
+
 pub record IsPorted (w : World) (m x : Name) : Type 0 where
   pub carrier : (c : Constructor) × Among c (w.unions m x) × IsCarrier c
   pub others : (c : Constructor) → Among c (w.unions m x) → IsCarrier c ⊎ IsBatch m x c
+  -- what subscriptions carry
+  pub listeners : m ≡ codes "Platform.Sub" → (c : Constructor) → Among c (w.unions m x)
+      → c.alternative.tag ≡ Number (pos 0) → IsListener c
 
 -- Just with its one field, and Nothing
 abbrev pub IsJust : Constructor → Type 0

@@ -1,0 +1,2 @@
+//! `map` of commands and of subscriptions in canonical trees.
+#![tactic(auto)]
