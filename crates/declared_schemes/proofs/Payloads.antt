@@ -34,14 +34,14 @@ pub type_is : (home name m x : Name) → is_type home name m x ≡ true → (m �
 type_is home name m x e =
     let p = and_parts (same_name m home) (same_name x name) e in (one_name m home p.0, one_name x name p.1)
 
-abbrev AllNamed : List Name → Type 0
+abbrev pub AllNamed : List Name → Type 0
 AllNamed xs = AllByRecursion (λ (a : Name). a ≡ [] → ⊥) xs
 
-named_first : (xs ys : List Name) → AllNamed (xs ++ ys) → AllNamed xs
+pub named_first : (xs ys : List Name) → AllNamed (xs ++ ys) → AllNamed xs
 named_first [] ys h = tt
 named_first (x ∷ xs) ys h = (h.0, named_first xs ys h.1)
 
-named_second : (xs ys : List Name) → AllNamed (xs ++ ys) → AllNamed ys
+pub named_second : (xs ys : List Name) → AllNamed (xs ++ ys) → AllNamed ys
 named_second [] ys h = h
 named_second (x ∷ xs) ys h = named_second xs ys h.1
 

@@ -16,17 +16,17 @@ use Rattle.declared_schemes.proofs.Payloads.{type_is, payload_type_is}
 -- ---- the forms of ports
 
 -- a type that leads to this one
-record IsOut (a t : Annotation) : Type 0 where
-  message : Annotation
-  is : a ≡ FunctionType t (NamedType (codes "Platform.Cmd") (codes "Cmd") (MoreAnnotation message NoAnnotation))
+pub record IsOut (a t : Annotation) : Type 0 where
+  pub message : Annotation
+  pub is : a ≡ FunctionType t (NamedType (codes "Platform.Cmd") (codes "Cmd") (MoreAnnotation message NoAnnotation))
 
-record IsIn (a t : Annotation) : Type 0 where
-  message : Annotation
-  is : a ≡ FunctionType (FunctionType t message)
+pub record IsIn (a t : Annotation) : Type 0 where
+  pub message : Annotation
+  pub is : a ≡ FunctionType (FunctionType t message)
       (NamedType (codes "Platform.Sub") (codes "Sub") (MoreAnnotation message NoAnnotation))
 
 -- what a form says of a type
-abbrev Says : Annotation → PortForm → Type 0
+abbrev pub Says : Annotation → PortForm → Type 0
 Says a (Outgoing t) = IsOut a t
 Says a (Incoming t) = IsIn a t
 Says a NoPort = Unit {0}
@@ -101,7 +101,7 @@ to_says t m x message = outs (is_type (codes "Platform.Cmd") (codes "Cmd") m x) 
     outs true e = sent (is_variable message) (type_is (codes "Platform.Cmd") (codes "Cmd") m x e)
     outs false e = ins (is_type (codes "Platform.Sub") (codes "Sub") m x) refl
 
-form_says : (a : Annotation) → Says a (port_form a)
+pub form_says : (a : Annotation) → Says a (port_form a)
 form_says (Variable x) = blank_says (Variable x) x
 form_says (NamedType m x ts) = tt
 form_says (FunctionType t (Variable x)) = blank_says (FunctionType t (Variable x)) x

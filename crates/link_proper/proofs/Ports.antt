@@ -89,7 +89,7 @@ items_of_pairs (s ∷ sources) =
 
 -- ---- the first port of a name
 
-first_keep : (before more : List (Name × Name)) (x n : Name) → first_home before x ≡ Some n →
+pub first_keep : (before more : List (Name × Name)) (x n : Name) → first_home before x ≡ Some n →
     first_home (before ++ more) x ≡ Some n
 first_keep [] more x n e = absurd cc
 first_keep (p ∷ ps) more x n e = by (same_name p.1 x) e (first_keep ps more x n)
@@ -100,7 +100,7 @@ first_keep (p ∷ ps) more x n e = by (same_name p.1 x) e (first_keep ps more x 
     by true e rest = e
     by false e rest = rest e
 
-first_new : (before : List (Name × Name)) (x n : Name) → first_home before x ≡ None →
+pub first_new : (before : List (Name × Name)) (x n : Name) → first_home before x ≡ None →
     first_home (before ++ (n, x) ∷ []) x ≡ Some n
 first_new [] x n e = ap (λ b. if b then Some n else None) (name_itself x)
 first_new (p ∷ ps) x n e = by (same_name p.1 x) e (first_new ps x n)
@@ -112,7 +112,7 @@ first_new (p ∷ ps) x n e = by (same_name p.1 x) e (first_new ps x n)
     by false e rest = rest e
 
 -- of one name, once one is there
-with_keep : (before : List (Name × Name)) (home x n : Name) (p : Option Port) → first_home before x ≡ Some n →
+pub with_keep : (before : List (Name × Name)) (home x n : Name) (p : Option Port) → first_home before x ≡ Some n →
     first_home (with_port before home p) x ≡ Some n
 with_keep before home x n None e = e
 with_keep before home x n (Some p) e = first_keep before ((home, p.name) ∷ []) x n e
@@ -132,16 +132,16 @@ no_fault true f e = absurd cc
 no_fault false f e = refl
 
 -- the home of a port that does not clash
-home_known : (before : List (Name × Name)) (d : Placed) (p : Port) → clash_at before d (Some p) ≡ [] →
+pub home_known : (before : List (Name × Name)) (d : Placed) (p : Port) → clash_at before d (Some p) ≡ [] →
     (first_home before p.name ≡ None) ⊎ (first_home before p.name ≡ Some d.name)
 home_known before d p e =
     not_other d.name (first_home before p.name) (no_fault (is_other d.name (first_home before p.name)) _ e)
 
-left_none : {X : Type 0} (xs ys : List X) → xs ++ ys ≡ [] → xs ≡ []
+pub left_none : {X : Type 0} (xs ys : List X) → xs ++ ys ≡ [] → xs ≡ []
 left_none [] ys e = refl
 left_none (x ∷ xs) ys e = absurd cc
 
-right_none : {X : Type 0} (xs ys : List X) → xs ++ ys ≡ [] → ys ≡ []
+pub right_none : {X : Type 0} (xs ys : List X) → xs ++ ys ≡ [] → ys ≡ []
 right_none [] ys e = e
 right_none (x ∷ xs) ys e = absurd cc
 

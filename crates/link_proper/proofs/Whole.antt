@@ -232,14 +232,14 @@ was_some f None e = e
 was_some f (Some x) e = refl
 
 -- the output of a link is one of its entry
-linked_entry : (sources : List Source) (entry : ℕ) (s : Source) (o : Output) → slice_get sources entry ≡ Some s →
+pub linked_entry : (sources : List Source) (entry : ℕ) (s : Source) (o : Output) → slice_get sources entry ≡ Some s →
     link (map part_of sources) entry ≡ Links o →
     linked_by (part_of s) (reached_pieces (map part_of sources) s.tree.name) ≡ Links o
 unfolding link
 linked_entry sources entry s o at linked =
     ap (linked_from (map part_of sources)) (sym (mapped_at part_of sources entry s at)) ∙ linked
 
-no_clash : (p : Part) (ds : List Placed) (o : Output) → linked_by p ds ≡ Links o → clashes [] ds ≡ []
+pub no_clash : (p : Part) (ds : List Placed) (o : Output) → linked_by p ds ≡ Links o → clashes [] ds ≡ []
 no_clash p ds o e =
     nothing_after (main_faults p.path p.fragment.main) (clashes [] ds) (no_faults (link_faults p ds) _ o e)
 
@@ -254,7 +254,7 @@ has_main s ds o e =
 
 -- ---- pairs that are reached
 
-abbrev reached_pairs : List Source → Name → List Pair
+abbrev pub reached_pairs : List Source → Name → List Pair
 reached_pairs sources home =
     reached (λ (p : Pair). item_names p.1) (λ (p : Pair). item_uses p.1) (main_name home) (pairs_of sources)
 
@@ -266,7 +266,7 @@ piece_uses : (p : Pair) → item_uses p.1 ≡ (placed_of p).piece.uses
 piece_uses (s, Core p) = refl
 piece_uses (s, Declared ports d) = refl
 
-pieces_reached : (sources : List Source) (home : Name) →
+pub pieces_reached : (sources : List Source) (home : Name) →
     map placed_of (reached_pairs sources home) ≡ reached_pieces (map part_of sources) home
 unfolding reached_pieces
 pieces_reached sources home =
@@ -275,7 +275,7 @@ pieces_reached sources home =
     ∙ ap (reached (λ (d : Placed). d.piece.names) (λ (d : Placed). d.piece.uses) (main_name home))
     (placed_pairs sources)
 
-items_reached : (sources : List Source) (home : Name) →
+pub items_reached : (sources : List Source) (home : Name) →
     map item_of (reached_pairs sources home) ≡ reached_items sources home
 unfolding reached_items
 items_reached sources home =

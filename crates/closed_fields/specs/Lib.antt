@@ -1,0 +1,2 @@
+-- declared types whose variables are parameters
+pub mod Closed

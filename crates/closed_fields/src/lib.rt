@@ -1,0 +1,4 @@
+//! The variables of declared types.
+#![tactic(auto)]
+
+pub mod laws;

@@ -1,0 +1,2 @@
+-- written types
+pub mod Written

@@ -1,0 +1,4 @@
+//! The function types of a read text.
+#![tactic(auto)]
+
+pub mod laws;
