@@ -1,4 +1,5 @@
--- The output of a build is that of the program that its modules make, which the laws of what is emitted speak of.
+-- The output of a build is that of the program that its modules make, which the laws of what is emitted speak of; and
+-- that program meets what each program meets that a link makes of a build: `outputs_meet`, `outputs_mean`.
 use Rattle.std.proofs.Common.{◌≡◌, ℕ, zero, suc, ◌<◌, List, [], ◌∷◌, Bool, true, false, Option, Some, None, length, map}
 use Rattle.std.proofs.Common.{refl, sym, ap, ◌∙◌, subst, arith}
 use Rattle.std.specs.Prelude.{slice_get, MatchBool, codes, flat_map}
@@ -22,7 +23,7 @@ use Rattle.emit_size_laws.specs.Small.{NamedProgram, IsSmallOutput}
 use Rattle.link.specs.Link as linked
 use Rattle.link.specs.Link.{Output, Links, Unlinked, link}
 use Rattle.link.specs.Programs.{Source, part_of, program_of, Tells}
-use Rattle.module_walk.specs.Modules.{Setting}
+use Rattle.module_walk.specs.Modules.{Setting, Module}
 use Rattle.project_file.specs.Paths.{normal_path, is_absolute}
 use Rattle.project_file.specs.Project.{Told, directories, fault, project_of}
 use Rattle.module_made.specs.Made.{Value}
@@ -52,6 +53,26 @@ Running =
 abbrev pub Fitting : Type 0
 Fitting = (p : Program) (bytes : List ℕ) → NamedProgram p → IsSmallOutput p bytes → in_subset (Emit p) ≡ true
 
+-- the modules of a build, as a link takes them: the program that it makes has proper names, and meets P
+pub record Meets (P : Program → Type 0) (ps : List Part) (values : List Value) (qs : List linked.Part) : Type 0 where
+  pub modules : List Resolved
+  pub built : AreBuilt ps values modules
+  pub parts : map part_of (map source_of modules) ≡ qs
+  pub each : (number : ℕ) (r : Resolved) (o : Output) → slice_get modules number ≡ Some r → link qs number ≡ Links o
+      → NamedProgram (program_of (map source_of modules) (source_of r))
+      × P (program_of (map source_of modules) (source_of r))
+
+abbrev pub AllMeet : (Program → Type 0) → Type 0
+AllMeet P =
+    (core ms : List Module) (order : List ℕ) (values : List Value) (qs : List linked.Part) → AreOfBuild core ms order
+    → Values (parts_of core ms order) values → linked_parts (zip (parts_of core ms order) values) ≡ Some qs
+    → Meets P (parts_of core ms order) values qs
+
+abbrev pub OutputsMeet : (Program → Type 0) → Type 0
+OutputsMeet P =
+    (tree : Tree) (entry output bytes : List ℕ) → IsUtf8 entry → Clean tree entry output (Text bytes)
+    → length bytes < 4294967296 → (p : Program) × IsSourceProgram tree entry p × Translates p bytes × P p
+
 -- ---- outcomes
 
 same_text : (bytes others : List ℕ) → Text bytes ≡ Text others → bytes ≡ others
@@ -80,7 +101,7 @@ get_mapped f (y ∷ ys) (suc n) x e = get_mapped f ys n x e
 
 -- ---- an output
 
-module _ (runs : Running) (fits : Fitting) where
+module _ (runs : Running) (fits : Fitting) (tells : Linking) where
   translates : (p : Program) (bytes : List ℕ) → NamedProgram p → JsText (Emit p) bytes → length bytes < 4294967296
       → Translates p bytes
   translates p bytes n t small =
@@ -95,25 +116,24 @@ module _ (runs : Running) (fits : Fitting) where
         alike = runs p bytes n out;
       }
 
-  module _ (links : BuildsAreLinked) (named : LinksAreNamed) (tells : Linking) where
+  module _ (P : Program → Type 0) where
     abbrev Means : List Part → List ℕ → List ℕ → Type 0
-    Means ps name bytes = (p : Program) × IsProgram ps name p × Translates p bytes
+    Means ps name bytes = (p : Program) × IsProgram ps name p × Translates p bytes × P p
 
     linked_means : (ps : List Part) (values : List Value) (qs : List linked.Part) (name bytes : List ℕ) (number : ℕ)
-        → IsBuild ps → Values ps values → linked_parts (zip ps values) ≡ Some qs → number_of ps name ≡ Some number
+        → Meets P ps values qs → Values ps values → number_of ps name ≡ Some number
         → number < length ps → length bytes < 4294967296 → (l : linked.Linked) → link qs number ≡ l
         → IsLinked l (Text bytes) → Means ps name bytes
-    linked_means ps values qs name bytes number b v e at low small (Unlinked fs) is f =
+    linked_means ps values qs name bytes number k v at low small (Unlinked fs) is f =
         absurd (let z : Text bytes ≡ Faulty fs = f in cc)
-    linked_means ps values qs name bytes number b v e at low small (Links o) is f =
-        let k = links ps values qs b v e in
-        let rs = k.0 in
-        let r = there rs number (subst (λ n. number < n) (as_long ps values rs k.1) low) in
+    linked_means ps values qs name bytes number k v at low small (Links o) is f =
+        let rs = k.modules in
+        let r = there rs number (subst (λ n. number < n) (as_long ps values rs k.built) low) in
         let p = program_of (map source_of rs) (source_of r.0) in
-        let n : NamedProgram p = named qs rs number r.0 o k.2 r.1 is in
+        let good : NamedProgram p × P p = k.each number r.0 o r.1 is in
         let says : Tells o p =
         tells (map source_of rs) number (source_of r.0) o (get_mapped source_of rs number r.0 r.1)
-        (ap (λ z. link z number) k.2.parts ∙ is) in
+        (ap (λ z. link z number) k.parts ∙ is) in
         let same : bytes ≡ f.0 = same_text bytes f.0 f.2 in
         let t : JsText (Emit p) bytes =
         same ∙ (text_is o f.1.0 f.1.1 f.0 f.1.2 ∙ sym (written o p says)) in (
@@ -122,39 +142,40 @@ module _ (runs : Running) (fits : Fitting) where
             values = values;
             are = v;
             modules = rs;
-            built = k.1;
+            built = k.built;
             number = number;
             numbered = at;
             entry = r.0;
             there = r.1;
             is = refl;
           },
-          translates p bytes n t small,
+          translates p bytes good.0 t small,
+          good.1,
         )
 
     entered_means : (ps : List Part) (values : List Value) (qs : List linked.Part) (name bytes : List ℕ)
-        → IsBuild ps → Values ps values → linked_parts (zip ps values) ≡ Some qs → length bytes < 4294967296
-        → (entry : Option ℕ)
+        → Meets P ps values qs → Values ps values → length bytes < 4294967296 → (entry : Option ℕ)
         → number_of ps name ≡ entry → IsEntered qs entry (Text bytes) → Means ps name bytes
-    entered_means ps values qs name bytes b v e small None at f = absurd f
-    entered_means ps values qs name bytes b v e small (Some number) at f =
+    entered_means ps values qs name bytes k v small None at f = absurd f
+    entered_means ps values qs name bytes k v small (Some number) at f =
         let low : number < length (map name_of ps) =
         (position-Some (bytes_eq name) (map name_of ps) number [] at).0 in
-        linked_means ps values qs name bytes number b v e at
-        (subst (λ n. number < n) (length-map ps name_of) low) small (link qs number) refl f
+        linked_means ps values qs name bytes number k v at (subst (λ n. number < n) (length-map ps name_of) low) small
+        (link qs number) refl f
 
-    finished_means : (ps : List Part) (values : List Value) (name bytes : List ℕ) → IsBuild ps → Values ps values
+    finished_means : (ps : List Part) (values : List Value) (name bytes : List ℕ)
+        → ((qs : List linked.Part) → linked_parts (zip ps values) ≡ Some qs → Meets P ps values qs) → Values ps values
         → length bytes < 4294967296 → (qs : Option (List linked.Part)) → linked_parts (zip ps values) ≡ qs
         → IsFinished values qs (number_of ps name) (Text bytes) → Means ps name bytes
-    finished_means ps values name bytes b v small None e f =
+    finished_means ps values name bytes meets v small None e f =
         absurd (let z : Text bytes ≡ Faulty (flat_map faults_of values) = f in cc)
-    finished_means ps values name bytes b v small (Some qs) e f =
-        entered_means ps values qs name bytes b v e small (number_of ps name) refl f
+    finished_means ps values name bytes meets v small (Some qs) e f =
+        entered_means ps values qs name bytes (meets qs e) v small (number_of ps name) refl f
 
-    module _ (builds : BuildsStand) where
+    module _ (all : AllMeet P) where
       project_means : (s : Setting) (written : List ℕ) (bytes : List ℕ) → IsUtf8 written → s.core ≡ core_names
           → length bytes < 4294967296 → Compiled s written (Text bytes)
-          → (p : Program) × IsProjectProgram s written p × Translates p bytes
+          → (p : Program) × IsProjectProgram s written p × Translates p bytes × P p
       project_means s written bytes utf8 core small c =
           let of_build : AreOfBuild c.core c.modules c.order = record {
             setting = s;
@@ -166,9 +187,9 @@ module _ (runs : Running) (fits : Fitting) where
             are_core = c.are_core;
           } in
           let ps = parts_of c.core c.modules c.order in
-          let stands = builds c.core c.modules c.order of_build in
-          let m = finished_means ps c.compiled.0 c.entry bytes stands c.compiled.1 small (linked_parts (zip ps c.compiled.0)) refl
-          c.compiled.2 in (
+          let m = finished_means ps c.compiled.0 c.entry bytes
+          (λ qs. all c.core c.modules c.order c.compiled.0 qs of_build c.compiled.1) c.compiled.1 small
+          (linked_parts (zip ps c.compiled.0)) refl c.compiled.2 in (
             m.0,
             record {
               modules = c.modules;
@@ -182,11 +203,12 @@ module _ (runs : Running) (fits : Fitting) where
               program = m.1;
             },
             m.2,
+            m.3,
           )
 
       built_means : (s : Setting) (written : List ℕ) (bytes : List ℕ) (outcome : Outcome) → IsUtf8 written
           → s.core ≡ core_names → length bytes < 4294967296 → Builds s written outcome → outcome ≡ Text bytes
-          → (p : Program) × IsProjectProgram s written p × Translates p bytes
+          → (p : Program) × IsProjectProgram s written p × Translates p bytes × P p
       built_means s written bytes outcome utf8 core small (refused p) e = absurd cc
       built_means s written bytes outcome utf8 core small (compiles c) e =
           project_means s written bytes utf8 core small (subst (Compiled s written) e c)
@@ -194,26 +216,42 @@ module _ (runs : Running) (fits : Fitting) where
       told_means : (tree : Tree) (written file bytes : List ℕ) → IsUtf8 written → length bytes < 4294967296
           → tree (codes "elm.json") ≡ Some file → (t : Told) → project_of file ≡ t
           → ToldBuilds tree written t (Text bytes)
-          → (p : Program) × IsSourceProgram tree written p × Translates p bytes
+          → (p : Program) × IsSourceProgram tree written p × Translates p bytes × P p
       told_means tree written file bytes utf8 small at (fault code) e f = absurd cc
       told_means tree written file bytes utf8 small at (directories paths) e f =
-          let m = built_means (record { tree = tree; directories = paths; core = core_names }) written bytes (Text bytes)
-          utf8 refl small f refl in
-          (m.0, record { bytes = file; there = at; paths = paths; told = e; program = m.1 }, m.2)
+          let s : Setting = record { tree = tree; directories = paths; core = core_names } in
+          let m = built_means s written bytes (Text bytes) utf8 refl small f refl in
+          (m.0, record { bytes = file; there = at; paths = paths; told = e; program = m.1 }, m.2, m.3)
 
       opened_means : (tree : Tree) (written bytes : List ℕ) → IsUtf8 written → length bytes < 4294967296
           → (o : Option (List ℕ)) → tree (codes "elm.json") ≡ o → ProjectBuilds tree written o (Text bytes)
-          → (p : Program) × IsSourceProgram tree written p × Translates p bytes
+          → (p : Program) × IsSourceProgram tree written p × Translates p bytes × P p
       opened_means tree written bytes utf8 small None at f = absurd cc
       opened_means tree written bytes utf8 small (Some file) at f =
           told_means tree written file bytes utf8 small at (project_of file) refl f
 
-      by_test : (c : Bool) (P Q : Type 0) → {R : Type 0} → (P → R) → (Q → R) → MatchBool c P Q → R
-      by_test true P Q f g m = f m
-      by_test false P Q f g m = g m
+      by_test : (c : Bool) (A B : Type 0) → {R : Type 0} → (A → R) → (B → R) → MatchBool c A B → R
+      by_test true A B f g m = f m
+      by_test false A B f g m = g m
 
-      pub outputs_mean : OutputsMean
-      outputs_mean tree entry output bytes utf8 c small =
+      pub outputs_meet : OutputsMeet P
+      outputs_meet tree entry output bytes utf8 c small =
           by_test (is_absolute output) _ _ (λ e. absurd cc)
           (by_test (is_output (normal_path output)) _ _
           (opened_means tree entry bytes utf8 small (tree (codes "elm.json")) refl) (λ e. absurd cc)) c
+
+  -- ---- where nothing more is asked of programs
+
+  module _ (links : BuildsAreLinked) (named : LinksAreNamed) (builds : BuildsStand) where
+    all_linked : AllMeet (λ p. Unit {0})
+    all_linked core ms order values qs b v e =
+        let k = links (parts_of core ms order) values qs (builds core ms order b) v e in record {
+          modules = k.0;
+          built = k.1;
+          parts = k.2.parts;
+          each = λ number r o at is. (named qs k.0 number r o k.2 at is, tt);
+        }
+
+    pub outputs_mean : OutputsMean
+    outputs_mean tree entry output bytes utf8 c small =
+        let m = outputs_meet (λ p. Unit {0}) all_linked tree entry output bytes utf8 c small in (m.0, m.1, m.2)

@@ -15,7 +15,7 @@ use Rattle.elm_make.specs.Counts.{Counts}
 use Rattle.elm_make.specs.End.{HasCause, IsDone, IsNotDone, IsOnly, IsShort, IsToldIfRose, Leaves, LeavesAtEnd}
 use Rattle.elm_make.specs.End.{lines_of}
 use Rattle.elm_make.specs.View.{outcome_view}
-use Rattle.build_meaning.specs.Meaning.{OutputsMean}
+use Rattle.build_safety.specs.Safety.{BuildsAreNeverStuck}
 use Rattle.project_build.specs.Outcomes.{Clean, Faulty, Outcome, Stopped, Text, fault_lines}
 use Rattle.project_file.specs.Paths.{normal_path}
 use Rattle.commands.specs.Causes.{failure_line, memory_line}
@@ -32,7 +32,7 @@ HasNoText outcome =
     ((faults : Vec Fault Global) × (outcome ≡ program.Outcome.Stopped faults))
     ⊎ ((faults : Vec Fault Global) × (outcome ≡ program.Outcome.Faulty faults))
 
-module _ (law : OutputsMean) (entry output : List ℕ) (jobs : ℕ) (old new : Outside) where
+module _ (law : BuildsAreNeverStuck) (entry output : List ℕ) (jobs : ℕ) (old new : Outside) where
   abbrev meaning : Means (Some (make entry output jobs)) old.files.tree
   meaning = means law (Some (make entry output jobs)) old.files.tree
 

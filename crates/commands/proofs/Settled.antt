@@ -5,7 +5,7 @@ use Rattle.std.specs.Str.{IsUtf8}
 use Rattle.command_line.specs.Command.{Command, make, run}
 use Rattle.elm_files.specs.Tree.{Tree, file_at, with_file}
 use Rattle.elm_files.proofs.Trees.{file_at-with_file}
-use Rattle.build_meaning.specs.Meaning.{OutputsMean}
+use Rattle.build_safety.specs.Safety.{BuildsAreNeverStuck}
 use Rattle.elm_make.specs.Counts.{Counts}
 use Rattle.elm_make.specs.End.{IsOnly}
 use Rattle.project_build.specs.Outcomes.{Outcome, Text, Clean}
@@ -61,7 +61,7 @@ run_settled program inputs fuel (Some files) outcome found only = record {
   only = λ other known has. has.2 ∙ ap (run_effect (Some files)) (only has.0 has.1);
 }
 
-module _ (law : OutputsMean) where
+module _ (law : BuildsAreNeverStuck) where
   -- a text that the files give is the translation of the project
   pub means : (asked : Option Command) (tree : Option Tree) → Means asked tree
   means (Some (make entry output jobs)) (Some files) = law files entry output

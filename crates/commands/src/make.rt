@@ -7,7 +7,7 @@ ghost use Rattle.commands.specs.Outside.{outside};
 ghost use Rattle.commands.specs.Promise.{KeepsPromise};
 
 use crate::report::{file_failed, out_of_memory, printed, said};
-use build_meaning::laws::meaning_law;
+use build_safety::laws::safety_law;
 use build_workers::Gate;
 use elm_files::{Files, Sink};
 use elm_make::{BuildEnd, Outcome, build};
@@ -39,7 +39,7 @@ pub fn make_program<R: Threads + Wait + Sync, F: Files, O: Sink, E: Sink, G: Gat
         (outside F.Files O.Sink E.Sink files.old out.old err.old)
         (outside F.Files O.Sink E.Sink files.new out.new err.new) }
 {
-    meaning_law();
+    safety_law();
     match build(rt, alloc, files, entry, output, jobs, gate) {
         Ok(built) => match &built.outcome {
             Outcome::Text(_) => printed(out, err, &built.lines),

@@ -9,7 +9,7 @@ ghost use Rattle.commands.specs.Promise.{KeepsPromise};
 use crate::make::make_program;
 use crate::report::{out_of_memory, said};
 use crate::run::run_program;
-use build_meaning::laws::meaning_law;
+use build_safety::laws::safety_law;
 use build_workers::Gate;
 use command_line::{Command, command};
 use elm_files::{Files, Sink};
@@ -50,7 +50,7 @@ pub fn top<R: Threads + Wait + Sync, F: Files, O: Sink, E: Sink, G: Gate + Sync>
         (outside F.Files O.Sink E.Sink files.old out.old err.old)
         (outside F.Files O.Sink E.Sink files.new out.new err.new) }
 {
-    meaning_law();
+    safety_law();
     let Ok(asked) = command(alloc, words) else {
         return out_of_memory(err);
     };

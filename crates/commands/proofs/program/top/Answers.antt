@@ -36,7 +36,7 @@ returns-in-None g c =
     let old = outside g.F.Files g.O.Sink g.E.Sink c.args.files.now c.args.out.now c.args.err.now in
     let new = outside g.F.Files g.O.Sink g.E.Sink c.args.files.now c.args.out.now c.said.new.err in
     let none : command_line words ≡ None = sym (rw c.in-None.is at c.in-Ok.ensures) in
-    by_saying (command_line words) old new (means c.meaning_law.ensures (command_line words) old.files.tree) 2 USAGE.now
+    by_saying (command_line words) old new (means c.safety_law.ensures (command_line words) old.files.tree) 2 USAGE.now
     (omega arith) (omega arith)
     (nothing_settled (command_line words) old.files.tree none) refl refl refl refl c.said.result c.said.ensures
 
@@ -45,6 +45,6 @@ returns-in_default g c =
     let asked = command_line (map string_bytes c.args.words.now) in
     let old = outside g.F.Files g.O.Sink g.E.Sink c.args.files.now c.args.out.now c.args.err.now in
     let new = outside g.F.Files g.O.Sink g.E.Sink c.args.files.now c.args.out.now c.out_of_memory.new.err in
-    at_memory asked c.out_of_memory.result old new (means c.meaning_law.ensures asked old.files.tree)
+    at_memory asked c.out_of_memory.result old new (means c.safety_law.ensures asked old.files.tree)
     c.out_of_memory.ensures.status c.out_of_memory.ensures.told
     refl refl (inl refl) (unchanged asked old.files.tree new.files.tree refl) (inl refl)

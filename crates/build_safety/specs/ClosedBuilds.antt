@@ -1,0 +1,9 @@
+-- The modules of a build declare types whose variables are their parameters.
+use Rattle.std.specs.Prelude.{List, ◌∷◌, ◌++◌}
+use Rattle.closed_fields.specs.Closed.{HasClosedTypes}
+use Rattle.told_builds.specs.Compiled.{Compiled, AreModules}
+
+abbrev pub BuildsAreClosed : Type 0
+BuildsAreClosed =
+    (before : List Compiled) (c : Compiled) (after : List Compiled) → AreModules (before ++ c ∷ after)
+    → HasClosedTypes c.resolved.setting c.resolved.written c.resolved.whole

@@ -1,6 +1,0 @@
--- what is known
-pub mod Known
--- the types of constructors that are offered
-pub mod Exact
--- constructors
-pub mod Makers

@@ -1,2 +1,0 @@
--- the world of a build
-pub mod Worlds

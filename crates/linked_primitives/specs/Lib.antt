@@ -1,2 +1,0 @@
--- what a program has of the core, and what stands before its modules
-pub mod Primitives

@@ -1,2 +1,0 @@
--- expressions
-pub mod Simple

@@ -1,2 +1,0 @@
--- names of unions
-pub mod Names

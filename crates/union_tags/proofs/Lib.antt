@@ -1,2 +1,0 @@
--- tags
-pub mod Tags

@@ -1,2 +1,0 @@
--- constructors of unions
-pub mod Tags

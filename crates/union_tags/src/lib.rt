@@ -1,4 +1,0 @@
-//! The constructors of a module's unions.
-#![tactic(auto)]
-
-pub mod laws;

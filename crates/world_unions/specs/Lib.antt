@@ -1,2 +1,0 @@
--- unions
-pub mod Unions

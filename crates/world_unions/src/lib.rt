@@ -1,4 +1,0 @@
-//! The unions of a build's world.
-#![tactic(auto)]
-
-pub mod laws;
