@@ -1,4 +1,0 @@
-//! What the resolution of names gives the law of typed programs.
-#![tactic(auto)]
-
-pub mod laws;
