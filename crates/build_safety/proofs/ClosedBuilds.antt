@@ -6,13 +6,13 @@ use Rattle.decl_groups.proofs.Basics.{no_member, first_member, later_member, mem
 use Rattle.elm_canon.specs.Tree.{AliasDeclaration}
 use Rattle.canon_env.specs.Env.{Known}
 use Rattle.canon_module.specs.Resolve.{module_shows}
-use Rattle.parsed_types.proofs.Walking.{module_results}
+use Rattle.elm_grammar.proofs.Walking.{module_results}
 use Rattle.project_proper.specs.Resolved.{Resolved, IsImport, AreImports}
-use Rattle.closed_fields.specs.Closed.{AliasIsClosed, AliasesAreClosed, ImportsAreClosed, HasClosedTypes}
-use Rattle.closed_fields.proofs.Lists.{all_first, all_both}
-use Rattle.closed_fields.proofs.Modules.{modules_closed}
-use Rattle.told_builds.specs.Compiled.{Compiled, resolved_of, AreModules}
-use Rattle.told_builds.proofs.Among.{compiled_here, is_next}
+use Rattle.told_modules.specs.Closed.{AliasIsClosed, AliasesAreClosed, ImportsAreClosed, HasClosedTypes}
+use Rattle.told_modules.proofs.Lists.{all_first, all_both}
+use Rattle.told_modules.proofs.Modules.{modules_closed}
+use Rattle.build_safety.specs.Compiled.{Compiled, resolved_of, AreModules}
+use Rattle.build_safety.proofs.Among.{compiled_here, is_next}
 use Rattle.build_safety.specs.ClosedBuilds.{BuildsAreClosed}
 
 -- ---- what is shown

@@ -11,8 +11,8 @@ use Rattle.type_items.specs.Annotations.{number_of, own_variables, scheme_variab
 use Rattle.typed_values.specs.World.{Constructor, Among, IsOneOf}
 use Rattle.canon_env.proofs.Adding.{one_name}
 use Rattle.canon_env.specs.Exposing.{is_among}
-use Rattle.declared_schemes.specs.Schemes.{maker_type, constructor_of}
-use Rattle.closed_fields.specs.Closed.{IsNamed, AreClosed}
+use Rattle.told_modules.specs.Schemes.{maker_type, constructor_of}
+use Rattle.told_modules.specs.Closed.{IsNamed, AreClosed}
 use Rattle.build_safety.specs.ClosedMakers.{MakerIsClosed, MakersAreClosed}
 use Rattle.build_safety.proofs.ClosedVariables.{list_has}
 

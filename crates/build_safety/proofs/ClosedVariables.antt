@@ -9,8 +9,8 @@ use Rattle.elm_type.specs.Types.{variables_fields, end_variables}
 use Rattle.elm_type.specs.Rows.{name_lt, insert_field, insert_all, extend}
 use Rattle.type_items.specs.Annotations.{annotation_type, annotation_types, annotation_fields, written, written_all}
 use Rattle.type_items.specs.Annotations.{written_fields}
-use Rattle.declared_schemes.specs.Schemes.{types_in}
-use Rattle.closed_fields.proofs.Lists.{all_both, all_first, all_second}
+use Rattle.told_modules.specs.Schemes.{types_in}
+use Rattle.told_modules.proofs.Lists.{all_both, all_first, all_second}
 
 module _ {X : Type 0} (Q : X → Type 0) where
   abbrev pub Has : ElmType X → Type 0

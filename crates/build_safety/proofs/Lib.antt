@@ -84,5 +84,20 @@ mod MainEntry
 mod MainBound
 -- the start of a program
 pub mod LinkedMain
+-- modules that leave commands and subscriptions as ports made them
+pub mod LeavingModules
+-- and links of them
+pub mod KeptLinks
 -- programs of builds that never get stuck
 pub mod Safety
+-- what the output of a build means
+pub mod Meaning
+pub mod Made
+-- modules among others
+pub mod Among
+-- what they tell
+pub mod Told
+-- all modules
+pub mod Chain
+-- modules and programs
+pub mod Placed

@@ -10,12 +10,12 @@ use Rattle.elm_canon.specs.declared.reference.Ref.TheVariants.{Local, Top}
 use Rattle.elm_canon.specs.Tree.{Functions, NoFunction, MoreFunction, Group, Together, Constant, Destructure}
 use Rattle.elm_canon.specs.Tree.{Declaration, Given, Define}
 use Rattle.elm_meaning.specs.Functions.{Primitive}
-use Rattle.elm_proper.specs.Proper.{Scope, among, with_all, function_names, group_names}
-use Rattle.elm_proper.specs.Declarations.{ProperDeclarations, after_declarations, declared_names, is_destructuring}
-use Rattle.canon_mentions.specs.Mentions.{anything, DeclarationMentions}
+use Rattle.elm_canon.specs.Proper.{Scope, among, with_all, function_names, group_names}
+use Rattle.elm_canon.specs.Declarations.{ProperDeclarations, after_declarations, declared_names, is_destructuring}
+use Rattle.elm_canon.specs.Mentions.{anything, DeclarationMentions}
 use Rattle.emit_laws.specs.Programs.{primitive_scope}
-use Rattle.link_proper.proofs.Sublists.{names_all}
-use Rattle.link_proper.proofs.Left.{in_with, after_in, after_only}
+use Rattle.project_proper.proofs.Sublists.{names_all}
+use Rattle.project_proper.proofs.Left.{in_with, after_in, after_only}
 use Rattle.type_items.specs.Uses.{used_groups, used_group}
 use Rattle.type_items.specs.Expressions.{definitions, group_definitions, function_definitions}
 use Rattle.typed_values.specs.Simple.{Without, defines}

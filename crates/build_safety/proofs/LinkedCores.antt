@@ -7,12 +7,12 @@ use Rattle.std.specs.List.{filter_map, cons_option}
 use Rattle.elm_canon.specs.Tree.{Declaration, PortDeclaration}
 use Rattle.elm_canon.specs.declared.reference.Ref.{Ref}
 use Rattle.elm_meaning.specs.Functions.{Primitive}
-use Rattle.core_functions.specs.Cores.{core_of, cores_of}
+use Rattle.link.specs.Cores.{core_of, cores_of}
 use Rattle.link.specs.Reached.{kept}
 use Rattle.link.specs.Programs.{Item, Core, Declared, items_of, cores_in}
 use Rattle.typed_values.specs.World.{Among}
 use Rattle.project_proper.specs.Resolved.{source_of}
-use Rattle.told_builds.specs.Compiled.{Compiled, resolved_of}
+use Rattle.build_safety.specs.Compiled.{Compiled, resolved_of}
 use Rattle.build_safety.specs.ToldPrimitives.{IsCore}
 
 abbrev Named : Type 0

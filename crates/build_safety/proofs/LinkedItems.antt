@@ -3,16 +3,16 @@ use Rattle.std.proofs.Common.{◌≡◌, ℕ, suc, ◌+◌, List, [], ◌∷◌,
 use Rattle.std.proofs.Common.{ap, ◌∙◌, subst, arith, if◌then◌else◌, append-nil}
 use Rattle.std.specs.Prelude.{flat_map}
 use Rattle.elm_canon.specs.Tree.{Declaration}
-use Rattle.core_functions.specs.Cores.{others}
+use Rattle.link.specs.Cores.{others}
 use Rattle.link.specs.Reached.{kept}
 use Rattle.link.specs.Programs.{Item, Core, Declared, items_of, declarations_in}
-use Rattle.link_proper.proofs.Sublists.{Sub, none, take, skip, kept_sub}
-use Rattle.link_proper.proofs.Ports.{sub_declarations, source_declares}
+use Rattle.project_proper.proofs.Sublists.{Sub, none, take, skip, kept_sub}
+use Rattle.project_proper.proofs.Ports.{sub_declarations, source_declares}
 use Rattle.program_safety.specs.Parts.{AreSome}
 use Rattle.project_proper.specs.Resolved.{source_of}
 use Rattle.project_proper.proofs.Moved.{others_sub}
-use Rattle.told_builds.specs.Compiled.{Compiled, resolved_of}
-use Rattle.placed_builds.specs.Placed.{modules_of, declarations_of}
+use Rattle.build_safety.specs.Compiled.{Compiled, resolved_of}
+use Rattle.build_safety.specs.Placed.{modules_of, declarations_of}
 use Rattle.build_safety.specs.LinkedPieces.{items, pieces}
 
 kept_both : {X : Type 0} (test : ℕ → Bool) (n : ℕ) (xs ys : List X) →

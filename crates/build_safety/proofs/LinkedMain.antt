@@ -16,8 +16,8 @@ use Rattle.elm_type.specs.Schemes.{placed, appearing}
 use Rattle.canon_module.specs.Resolve.{module_faults}
 use Rattle.canon_proper.proofs.Scopes.{name_itself}
 use Rattle.emit_size_laws.specs.Small.{NamedProgram}
-use Rattle.entry_type.specs.Entry.{entry_type, IsProgram}
-use Rattle.ground_types.specs.Ground.{fits, lacks_all}
+use Rattle.port_payload.specs.Entry.{entry_type, IsProgram}
+use Rattle.elm_type.specs.Ground.{fits, lacks_all}
 use Rattle.link.specs.Programs.{flags_by, flags_said, program_of}
 use Rattle.type_items.specs.Annotations.{annotation_scheme}
 use Rattle.type_items.specs.Expressions.{definitions}
@@ -33,14 +33,14 @@ use Rattle.program_safety.specs.Told.{IsToldAs}
 use Rattle.program_safety.specs.Programs.{IsMain}
 use Rattle.project_proper.specs.Resolved.{source_of}
 use Rattle.module_offers.specs.Offers.{type_in}
-use Rattle.declared_once.proofs.Defined.{none_defined}
-use Rattle.declared_once.proofs.Once.{declared_once}
-use Rattle.told_offers.proofs.Offers.{offers_told}
-use Rattle.told_builds.specs.Compiled.{Compiled, home_of, interface_of, resolved_of, IsCompiled, AreModules}
-use Rattle.told_builds.specs.Told.{own, tells, told, part_of as as_part}
-use Rattle.told_builds.proofs.Among.{get_here, compiled_here, is_next}
-use Rattle.told_builds.proofs.Told.{told_at}
-use Rattle.placed_builds.specs.Placed.{any_values, bound_by}
+use Rattle.told_modules.proofs.Defined.{none_defined}
+use Rattle.told_modules.proofs.Once.{declared_once}
+use Rattle.told_modules.proofs.Offers.{offers_told}
+use Rattle.build_safety.specs.Compiled.{Compiled, home_of, interface_of, resolved_of, IsCompiled, AreModules}
+use Rattle.build_safety.specs.Told.{own, tells, told, part_of as as_part}
+use Rattle.build_safety.proofs.Among.{get_here, compiled_here, is_next}
+use Rattle.build_safety.proofs.Told.{told_at}
+use Rattle.build_safety.specs.Placed.{any_values, bound_by}
 use Rattle.build_safety.specs.LinkedPieces.{linked_pieces, linked_program}
 use Rattle.build_safety.specs.LinkedMain.{LinksHaveMain}
 use Rattle.build_safety.proofs.MainPrograms.{IsProgramType, is_program, renamed_program, program_instance}

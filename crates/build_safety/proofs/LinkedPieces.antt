@@ -5,19 +5,19 @@ use Rattle.std.specs.List.{AllByRecursion}
 use Rattle.elm_canon.specs.declared.reference.Ref.{Ref}
 use Rattle.elm_canon.specs.Tree.{Declaration}
 use Rattle.elm_meaning.specs.Run.{Program}
-use Rattle.elm_proper.specs.Proper.{Scope}
-use Rattle.elm_proper.specs.Declarations.{ProperDeclarations, after_declarations}
-use Rattle.canon_makers.specs.Laws.{Meets}
-use Rattle.canon_makers.proofs.Modules.{modules_meet}
-use Rattle.canon_mentions.specs.Mentions.{anything, DeclarationMentions}
+use Rattle.elm_canon.specs.Proper.{Scope}
+use Rattle.elm_canon.specs.Declarations.{ProperDeclarations, after_declarations}
+use Rattle.module_proper.specs.Laws.{Meets}
+use Rattle.module_proper.proofs.Modules.{modules_meet}
+use Rattle.elm_canon.specs.Mentions.{anything, DeclarationMentions}
 use Rattle.emit_laws.specs.Programs.{primitive_scope}
 use Rattle.emit_size_laws.specs.Small.{NamedProgram}
 use Rattle.link.specs.Reached.{kept}
 use Rattle.link.specs.Programs.{declarations_in, reached_items, program_of}
 use Rattle.program_safety.specs.Parts.{AreSome, bound_with, primitive_names}
-use Rattle.told_builds.specs.Compiled.{Compiled, home_of, AreModules}
-use Rattle.told_builds.proofs.Among.{is_next}
-use Rattle.placed_builds.specs.Placed.{Piece, declarations_of}
+use Rattle.build_safety.specs.Compiled.{Compiled, home_of, AreModules}
+use Rattle.build_safety.proofs.Among.{is_next}
+use Rattle.build_safety.specs.Placed.{Piece, declarations_of}
 use Rattle.build_safety.specs.LinkedPieces.{items, pieces, linked_pieces, AreLinked, linked_program, HasPieces, LinksHavePieces}
 use Rattle.build_safety.proofs.LinkedItems.{pieces_declare, pieces_modules, piece_some}
 use Rattle.build_safety.proofs.LinkedBound.{Covers, still_covers, primitives_cover, used_bound}

@@ -10,9 +10,9 @@ use Rattle.elm_canon.specs.declared.reference.Ref.TheVariants.{Local, Top}
 use Rattle.elm_canon.specs.Tree.{Declaration}
 use Rattle.elm_meaning.specs.Functions.{Primitive}
 use Rattle.elm_meaning.specs.Run.{Program}
-use Rattle.elm_proper.specs.Proper.{among}
-use Rattle.canon_makers.specs.Laws.{Meets}
-use Rattle.canon_makers.proofs.Modules.{modules_meet}
+use Rattle.elm_canon.specs.Proper.{among}
+use Rattle.module_proper.specs.Laws.{Meets}
+use Rattle.module_proper.proofs.Modules.{modules_meet}
 use Rattle.canon_env.proofs.Adding.{same_name-sym}
 use Rattle.canon_proper.proofs.Scopes.{name_itself}
 use Rattle.link.specs.Reached.{kept}
@@ -26,18 +26,18 @@ use Rattle.program_safety.specs.Parts.{Part, AreSome, IsOf, IsNotOf, IsEarlier, 
 use Rattle.program_safety.specs.Parts.{bound_with}
 use Rattle.program_safety.specs.Parts.{primitive_names}
 use Rattle.project_proper.specs.Resolved.{Resolved, HomesApart}
-use Rattle.told_builds.specs.Compiled.{Compiled, home_of, resolved_of, AreModules}
-use Rattle.told_builds.specs.Told.{told}
-use Rattle.told_builds.proofs.Among.{is_next}
-use Rattle.placed_builds.specs.Placed.{any_values, piece_part}
+use Rattle.build_safety.specs.Compiled.{Compiled, home_of, resolved_of, AreModules}
+use Rattle.build_safety.specs.Told.{told}
+use Rattle.build_safety.proofs.Among.{is_next}
+use Rattle.build_safety.specs.Placed.{any_values, piece_part}
 use Rattle.build_safety.specs.LinkedPieces.{items, pieces, linked_pieces, linked_program}
 use Rattle.build_safety.proofs.LinkedItems.{piece_some}
 use Rattle.build_safety.proofs.ToldPrimitives.{primitives_are_told}
 use Rattle.typed_values.specs.Sample.{sample}
-use Rattle.canon_mentions.specs.Mentions.{anything, IsOfModule, DeclarationMentions}
-use Rattle.binding_groups.proofs.Reaching.{or_cases}
+use Rattle.elm_canon.specs.Mentions.{anything, IsOfModule, DeclarationMentions}
+use Rattle.decl_groups.proofs.Reaching.{or_cases}
 use Rattle.elm_canon.specs.Tree.{Group, Together, Constant, Destructure, Given, Define}
-use Rattle.elm_proper.specs.Proper.{bound_by, function_names, group_names}
+use Rattle.elm_canon.specs.Proper.{bound_by, function_names, group_names}
 use Rattle.type_items.specs.Expressions.{group_definitions}
 use Rattle.type_items.specs.Scopes.{Known}
 use Rattle.told_modules.proofs.Names.{functions_named, defines_either}

@@ -5,17 +5,17 @@ use Rattle.std.specs.List.{AllByRecursion}
 use Rattle.elm_canon.specs.Names.{Name}
 use Rattle.elm_canon.specs.Tree.{Payload}
 use Rattle.elm_canon.specs.declared.reference.Ref.{Ref}
-use Rattle.elm_proper.specs.Proper.{Scope}
-use Rattle.elm_proper.specs.Declarations.{ProperDeclarations, after_declarations}
+use Rattle.elm_canon.specs.Proper.{Scope}
+use Rattle.elm_canon.specs.Declarations.{ProperDeclarations, after_declarations}
 use Rattle.emit_laws.specs.Programs.{primitive_scope}
-use Rattle.made_fields.proofs.Made.{made_fields}
+use Rattle.build_safety.proofs.Made.{made_fields}
 use Rattle.typed_values.proofs.Names.{all_left, all_right}
 use Rattle.program_safety.specs.Parts.{AreSome, bound_with, primitive_names}
-use Rattle.told_builds.specs.Compiled.{Compiled, AreModules}
-use Rattle.told_builds.proofs.Among.{compiled_here}
+use Rattle.build_safety.specs.Compiled.{Compiled, AreModules}
+use Rattle.build_safety.proofs.Among.{compiled_here}
 use Rattle.build_safety.specs.BuildWorlds.{world}
-use Rattle.kept_ports.specs.Ports.{KeepsPorts}
-use Rattle.placed_builds.specs.Placed.{Piece, modules_of, declarations_of}
+use Rattle.program_safety.specs.Ports.{KeepsPorts}
+use Rattle.build_safety.specs.Placed.{Piece, modules_of, declarations_of}
 use Rattle.build_safety.proofs.MakersMentions.{mentions_of_world}
 use Rattle.build_safety.specs.SimplePieces.{IsPiece}
 use Rattle.build_safety.proofs.SimplePieces.{pieces_simple}

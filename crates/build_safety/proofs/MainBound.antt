@@ -2,13 +2,13 @@
 use Rattle.std.proofs.Common.{◌≡◌, List, [], ◌∷◌, ◌++◌, Bool, true, refl, subst}
 use Rattle.elm_canon.specs.declared.reference.Ref.{Ref}
 use Rattle.elm_canon.specs.Tree.{Declaration}
-use Rattle.elm_proper.specs.Proper.{Scope, among, with_all}
-use Rattle.elm_proper.specs.Declarations.{ProperDeclarations, after_declarations, declared_names}
+use Rattle.elm_canon.specs.Proper.{Scope, among, with_all}
+use Rattle.elm_canon.specs.Declarations.{ProperDeclarations, after_declarations, declared_names}
 use Rattle.emit_laws.specs.Programs.{primitive_scope}
 use Rattle.emit_size_laws.specs.Small.{NamedProgram}
 use Rattle.program_safety.specs.Parts.{bound_with, primitive_names}
-use Rattle.told_builds.specs.Compiled.{Compiled, AreModules}
-use Rattle.placed_builds.specs.Placed.{Piece, declarations_of, bound_by}
+use Rattle.build_safety.specs.Compiled.{Compiled, AreModules}
+use Rattle.build_safety.specs.Placed.{Piece, declarations_of, bound_by}
 use Rattle.build_safety.specs.LinkedPieces.{linked_pieces, linked_program}
 use Rattle.build_safety.proofs.LinkedBound.{Covers, still_covers, primitives_cover}
 use Rattle.build_safety.proofs.LinkedPieces.{links_have_pieces}

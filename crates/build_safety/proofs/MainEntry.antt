@@ -4,9 +4,9 @@ use Rattle.std.specs.Prelude.{option_map, slice_get}
 use Rattle.elm_base.specs.declared.fault.Fault.{Fault}
 use Rattle.elm_meaning.specs.Run.{Flags}
 use Rattle.elm_type.specs.Types.{Scheme}
-use Rattle.entry_type.specs.Entry.{EntryType, entry_type}
-use Rattle.entry_type.specs.Entry as entry
-use Rattle.fragments.specs.Made.{fragment_of, says, main_of}
+use Rattle.port_payload.specs.Entry.{EntryType, entry_type}
+use Rattle.port_payload.specs.Entry as entry
+use Rattle.link.specs.Made.{fragment_of, says, main_of}
 use Rattle.link.specs.Link.{Output, Links, flags_in, flags_said, link, link_faults, linked_or, linked_from, output_of}
 use Rattle.link.specs.Link.{Placed, reached_pieces}
 use Rattle.link.specs.Programs.{Source, part_of}

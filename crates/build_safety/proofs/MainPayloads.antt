@@ -11,9 +11,9 @@ use Rattle.elm_type.specs.Types.{MoreField, named, list_type, int_type, renamed,
 use Rattle.elm_type.specs.Rows.{insert_field, insert_all, substitute, substitute_all, substitute_fields}
 use Rattle.elm_type.specs.declared.head.Head.TheVariants as head
 use Rattle.canon_type.specs.Ports.{is_type}
-use Rattle.declared_schemes.proofs.Payloads.{type_is, payload_type_is}
-use Rattle.entry_type.specs.Payloads.{made_annotation, annotation_of, annotations_of, field_types_of, type_payload}
-use Rattle.entry_type.specs.Payloads.{record_annotation}
+use Rattle.told_modules.proofs.Payloads.{type_is, payload_type_is}
+use Rattle.port_payload.specs.EntryTypePayloads.{made_annotation, annotation_of, annotations_of, field_types_of, type_payload}
+use Rattle.port_payload.specs.EntryTypePayloads.{record_annotation}
 use Rattle.port_payload.specs.Payloads.{plain_payload, payload_around, and_payload, payload_within, payloads_within}
 use Rattle.port_payload.specs.Payloads.{fields_within, payload_of}
 use Rattle.typed_values.specs.Payloads.{payload_type, payload_types, payload_fields}

@@ -10,10 +10,10 @@ use Rattle.elm_type.specs.Rows.{substitute}
 use Rattle.elm_type.specs.declared.head.Head.{Head}
 use Rattle.elm_type.specs.declared.head.Head.TheVariants as head
 use Rattle.canon_type.specs.Ports.{is_type}
-use Rattle.declared_schemes.proofs.Payloads.{type_is}
-use Rattle.entry_type.specs.Payloads.{has_fields, with_fields, type_payload}
-use Rattle.entry_type.specs.Entry.{IsProgram, text_of, is_unit, flags_in, with_payload, with_flags}
-use Rattle.entry_type.specs.Entry.{entry_by, entry_type}
+use Rattle.told_modules.proofs.Payloads.{type_is}
+use Rattle.port_payload.specs.EntryTypePayloads.{has_fields, with_fields, type_payload}
+use Rattle.port_payload.specs.Entry.{IsProgram, text_of, is_unit, flags_in, with_payload, with_flags}
+use Rattle.port_payload.specs.Entry.{entry_by, entry_type}
 use Rattle.port_payload.specs.Payloads.{payload_of}
 use Rattle.program_safety.specs.Programs.{program_type, flags_type}
 use Rattle.build_safety.proofs.MainPayloads.{payload_is, same_annotation}

@@ -10,7 +10,7 @@ use Rattle.elm_canon.specs.Tree.{Annotation, PortDeclaration, Module, Functions,
 use Rattle.elm_canon.specs.Tree.{Declaration, Given, Define}
 use Rattle.elm_canon.specs.declared.reference.Ref.{Ref}
 use Rattle.elm_canon.specs.declared.reference.Ref.TheVariants.{Local, Top}
-use Rattle.elm_proper.specs.Proper.{among, IsIn}
+use Rattle.elm_canon.specs.Proper.{among, IsIn}
 use Rattle.elm_type.specs.Types.{Scheme}
 use Rattle.elm_type.specs.Schemes.{rename}
 use Rattle.canon_env.proofs.Adding.{one_name}
@@ -20,7 +20,7 @@ use Rattle.canon_proper.proofs.Scopes.{ref_itself}
 use Rattle.module_proper.specs.Modules.{tops}
 use Rattle.module_proper.proofs.Numbers.{one_home, no_local}
 use Rattle.interface.specs.Interface.{Value}
-use Rattle.scheme_order.specs.Order.{scheme_in_order}
+use Rattle.elm_type.specs.Order.{scheme_in_order}
 use Rattle.type_items.specs.Annotations.{annotation_scheme}
 use Rattle.type_items.specs.Definitions.{Definition}
 use Rattle.type_items.specs.Expressions.{definitions, group_definitions, function_definitions}
@@ -33,9 +33,9 @@ use Rattle.program_safety.specs.Parts.{IsOf}
 use Rattle.module_offers.specs.Offers.{value, defined_value, pattern_count, function_values, group_values}
 use Rattle.module_offers.specs.Offers.{declared_values, port_value, module_values, is_main, named_by, first_type}
 use Rattle.module_offers.specs.Offers.{main_type}
-use Rattle.declared_once.proofs.Defined.{defined_is}
-use Rattle.declared_once.proofs.Once.{defined_in}
-use Rattle.told_offers.proofs.Lists.{all_among, all_both, all_second}
+use Rattle.told_modules.proofs.Defined.{defined_is}
+use Rattle.told_modules.proofs.Once.{defined_in}
+use Rattle.told_modules.proofs.ToldOffersLists.{all_among, all_both, all_second}
 
 -- ---- what definitions define
 

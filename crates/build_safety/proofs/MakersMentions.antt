@@ -7,14 +7,14 @@ use Rattle.elm_canon.specs.Unions.{Declared}
 use Rattle.elm_canon.specs.declared.unions.Alternative.{Alternative}
 use Rattle.elm_canon.specs.Tree.{Payload, UnionDeclaration}
 use Rattle.canon_env.specs.Env.{declared_alternatives}
-use Rattle.canon_makers.specs.Laws.{Meets}
-use Rattle.canon_makers.proofs.Modules.{modules_meet}
-use Rattle.canon_mentions.specs.Mentions.{Condition, DeclarationsMention}
+use Rattle.module_proper.specs.Laws.{Meets}
+use Rattle.module_proper.proofs.Modules.{modules_meet}
+use Rattle.elm_canon.specs.Mentions.{Condition, DeclarationsMention}
 use Rattle.canon_module.specs.Resolve.{declared_by}
 use Rattle.typed_values.specs.World.{Constructor, Among}
-use Rattle.kept_ports.specs.Ports.{IsOfWorld}
-use Rattle.told_builds.specs.Compiled.{Compiled, home_of, resolved_of, AreModules}
-use Rattle.told_builds.proofs.Among.{is_next}
+use Rattle.program_safety.specs.Ports.{IsOfWorld}
+use Rattle.build_safety.specs.Compiled.{Compiled, home_of, resolved_of, AreModules}
+use Rattle.build_safety.proofs.Among.{is_next}
 use Rattle.build_safety.specs.BuildWorlds.{constructors, unions_at, world}
 use Rattle.build_safety.proofs.UnionNames.{unions_found}
 use Rattle.build_safety.proofs.WorldUnions.{unions_declared}

@@ -13,9 +13,9 @@ use Rattle.canon_env.specs.Imports.{Exposing, Everything, exposes_type, exposes_
 use Rattle.canon_env.specs.Env.{Known, own_rows, import_rows, imported_rows, shown_rows, makers_by, union_makers}
 use Rattle.canon_env.specs.Env.{record_maker, declared_alternatives, maker, when}
 use Rattle.canon_env.specs.declared.found.Named.{Named}
-use Rattle.canon_sites.specs.Naming.{World, qualifier_of, own_name, maker_found}
-use Rattle.canon_mentions.specs.Mentions.{Condition}
-use Rattle.canon_makers.specs.Laws.{AllMeet}
+use Rattle.canon_env.specs.Naming.{World, qualifier_of, own_name, maker_found}
+use Rattle.elm_canon.specs.Mentions.{Condition}
+use Rattle.module_proper.specs.Laws.{AllMeet}
 
 -- the constructors of a union, and of unions
 abbrev pub UnionMeets : Condition → UnionDeclaration → Type 0

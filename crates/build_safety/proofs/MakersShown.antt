@@ -10,7 +10,7 @@ use Rattle.elm_canon.specs.declared.unions.Alternative.{Alternative}
 use Rattle.elm_canon.specs.Tree.{UnionDeclaration}
 use Rattle.canon_env.specs.Env.{Known, declared_alternatives}
 use Rattle.canon_env.specs.Imports.{exposes_type, exposes_makers}
-use Rattle.canon_mentions.specs.Mentions.{Condition}
+use Rattle.elm_canon.specs.Mentions.{Condition}
 use Rattle.canon_module.specs.Offers.{exposed_by, without_makers, opaque, offered_by, unions_by}
 use Rattle.canon_module.specs.Resolve.{module_shows}
 use Rattle.module_proper.specs.Modules.{AreBare}

@@ -6,9 +6,9 @@ use Rattle.link.specs.Programs.{declarations_in}
 use Rattle.type_items.specs.Modules.{known_in}
 use Rattle.typed_values.specs.World.{World, KnownIn}
 use Rattle.program_safety.specs.Parts.{bound_with, primitive_names}
-use Rattle.told_builds.specs.Compiled.{Compiled}
-use Rattle.told_builds.specs.Told.{told}
-use Rattle.placed_builds.specs.Placed.{ArePlaced}
+use Rattle.build_safety.specs.Compiled.{Compiled}
+use Rattle.build_safety.specs.Told.{told}
+use Rattle.build_safety.specs.Placed.{ArePlaced}
 use Rattle.build_safety.specs.BuildWorlds.{world}
 use Rattle.build_safety.proofs.WorldKnown.{modules_known}
 use Rattle.build_safety.specs.LinkedPieces.{items, pieces, linked_program, AreLinked}

@@ -13,31 +13,31 @@ use Rattle.elm_canon.specs.Tree.{PortDeclaration}
 use Rattle.elm_canon.specs.declared.reference.Ref.{Ref}
 use Rattle.elm_canon.specs.declared.reference.Ref.TheVariants.{Top}
 use Rattle.elm_canon.specs.declared.unions.Alternative.{Alternative}
-use Rattle.canon_blocks.specs.Blocks.{Made, group_of}
-use Rattle.canon_declared.specs.Unions.{alternatives_of}
+use Rattle.canon_expr.specs.Blocks.{Made, group_of}
+use Rattle.canon_type.specs.Unions.{alternatives_of}
 use Rattle.canon_env.specs.Imports.{name_of}
 use Rattle.canon_module.specs.Resolve.{Setting, IsModule, maker_of, record_maker, makers_in, world_of}
-use Rattle.canon_sites.specs.Naming.{World}
-use Rattle.canon_sites.specs.Types.{type_of}
+use Rattle.canon_env.specs.Naming.{World}
+use Rattle.canon_env.specs.Types.{type_of}
 use Rattle.canon_type.specs.Ports.{PortForm, Outgoing, Incoming, NoPort, Untold, port_form}
-use Rattle.canon_values.specs.Items.{items_of, annotation_by}
-use Rattle.canon_values.specs.Ports.{known_by}
-use Rattle.declared_once.proofs.Each.{both_all, IsItem, each_declaration}
+use Rattle.canon_module.specs.Items.{items_of, annotation_by}
+use Rattle.canon_module.specs.Ports.{known_by}
+use Rattle.told_modules.proofs.Each.{both_all, IsItem, each_declaration}
 use Rattle.elm_meaning.specs.Functions.{Primitive}
 use Rattle.elm_meaning.specs.Run.{out_ports}
-use Rattle.elm_proper.specs.Declarations.{ProperDeclarations}
+use Rattle.elm_canon.specs.Declarations.{ProperDeclarations}
 use Rattle.emit_laws.specs.Programs.{primitive_scope}
 use Rattle.emit_size_laws.specs.Small.{NamedProgram}
 use Rattle.link.specs.Link.{Output, Links, link, clashes, reached_pieces}
 use Rattle.link.specs.Programs.{Source, Core, Declared, part_of, declarations_in, program_of}
 use Rattle.link.specs.Programs as programs
-use Rattle.link_proper.proofs.Ports.{Pair, pair_in, pairs_of, placed_of}
-use Rattle.link_proper.proofs.Sublists.{Sub, none, take, skip, kept_sub}
-use Rattle.link_proper.proofs.Whole.{linked_entry, no_clash, reached_pairs, pieces_reached, items_reached}
+use Rattle.project_proper.proofs.Ports.{Pair, pair_in, pairs_of, placed_of}
+use Rattle.project_proper.proofs.Sublists.{Sub, none, take, skip, kept_sub}
+use Rattle.project_proper.proofs.Whole.{linked_entry, no_clash, reached_pairs, pieces_reached, items_reached}
 use Rattle.project_proper.proofs.Moved.{others_sub}
 use Rattle.project_proper.specs.Resolved.{source_of}
-use Rattle.told_builds.specs.Compiled.{Compiled, resolved_of, AreModules}
-use Rattle.told_builds.proofs.Among.{is_next}
+use Rattle.build_safety.specs.Compiled.{Compiled, resolved_of, AreModules}
+use Rattle.build_safety.proofs.Among.{is_next}
 use Rattle.build_safety.specs.LinkedPieces.{linked_program}
 use Rattle.build_safety.specs.PortWorlds.{outs_of, AllCarry, ProgramsHavePorts, LinksCarry}
 use Rattle.build_safety.proofs.PortsApart.{PortNamed, PairNamed, pair_declarations, ports_apart, all_carry}

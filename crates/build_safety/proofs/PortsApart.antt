@@ -10,16 +10,16 @@ use Rattle.elm_canon.specs.declared.reference.Ref.{Ref}
 use Rattle.elm_canon.specs.declared.reference.Ref.TheVariants.{Top}
 use Rattle.canon_env.proofs.Adding.{one_name}
 use Rattle.canon_proper.proofs.Scopes.{name_itself, in_more, in_first, in_later}
-use Rattle.elm_proper.specs.Proper.{Scope, IsIn, with_all, group_names}
-use Rattle.elm_proper.specs.Declarations.{ProperDeclarations}
-use Rattle.fragments.specs.Fragments.{Port}
-use Rattle.fragments.specs.Made.{port_place}
+use Rattle.elm_canon.specs.Proper.{Scope, IsIn, with_all, group_names}
+use Rattle.elm_canon.specs.Declarations.{ProperDeclarations}
+use Rattle.link.specs.Fragments.{Port}
+use Rattle.link.specs.Made.{port_place}
 use Rattle.js_emit.specs.Codecs.{decoder}
 use Rattle.js_tree.specs.Text.{js_text}
 use Rattle.link.specs.Link.{clash_at, clashes, with_port, first_home}
 use Rattle.link.specs.Programs.{Core, Declared, declarations_in}
-use Rattle.link_proper.proofs.Ports.{Pair, item_of, placed_of, first_keep, first_new, with_keep, home_known}
-use Rattle.link_proper.proofs.Ports.{left_none, right_none}
+use Rattle.project_proper.proofs.Ports.{Pair, item_of, placed_of, first_keep, first_new, with_keep, home_known}
+use Rattle.project_proper.proofs.Ports.{left_none, right_none}
 use Rattle.build_safety.specs.PortWorlds.{outs_of, ins_of, Carries, AllCarry}
 
 -- ---- ports of names that are apart

@@ -3,22 +3,22 @@ use Rattle.std.proofs.Common.{◌≡◌, List, [], ◌∷◌, ◌++◌, inl, inr
 use Rattle.std.specs.List.{AllByRecursion}
 use Rattle.std.proofs.lemmas.Grind.{flat_map-append}
 use Rattle.elm_canon.specs.Tree.{Declaration, Given, Define, Module}
-use Rattle.canon_lets.proofs.Modules.{module_apart}
+use Rattle.module_proper.proofs.CanonLetsModules.{module_apart}
 use Rattle.canon_module.specs.Resolve as names
 use Rattle.canon_proper.proofs.Quiet.{append_none}
-use Rattle.pattern_faults.specs.Sites.{Site, start, group_sites, declarations_sites}
-use Rattle.pattern_faults.specs.Faults.{faults_at, faults}
-use Rattle.pattern_safety.specs.Resolved.{ResolvedGroups}
-use Rattle.pattern_safety.proofs.Covering.{faultless_is_simple}
+use Rattle.pattern_check.specs.Sites.{Site, start, group_sites, declarations_sites}
+use Rattle.pattern_check.specs.Faults.{faults_at, faults}
+use Rattle.type_safety.specs.Resolved.{ResolvedGroups}
+use Rattle.type_safety.proofs.Covering.{faultless_is_simple}
 use Rattle.typed_values.specs.World.{World}
 use Rattle.typed_values.specs.Simple.{SimpleGroups}
 use Rattle.type_safety.specs.Modules.{groups_in}
 use Rattle.program_safety.specs.Parts.{AreSome}
 use Rattle.told_modules.specs.Resolved.{DeclarationApart}
 use Rattle.told_modules.proofs.Resolved.{resolved_typed}
-use Rattle.told_builds.specs.Compiled.{Compiled, home_of, IsCompiled, AreModules}
-use Rattle.told_builds.proofs.Among.{compiled_here, is_next}
-use Rattle.kept_ports.proofs.Ports.{ports_kept}
+use Rattle.build_safety.specs.Compiled.{Compiled, home_of, IsCompiled, AreModules}
+use Rattle.build_safety.proofs.Among.{compiled_here, is_next}
+use Rattle.program_safety.proofs.Ports.{ports_kept}
 use Rattle.build_safety.specs.SimplePieces.{IsPiece, PiecesAreSimple}
 
 -- ---- some of the declarations

@@ -9,15 +9,15 @@ use Rattle.std.proofs.lemmas.Bool.{false≢true}
 use Rattle.std.proofs.lemmas.Slice.Eq.{bytes_eq-Decides}
 use Rattle.std.proofs.lemmas.Str.{utf8_lossy-IsUtf8}
 use Rattle.elm_base.specs.Units.{text_units}
-use Rattle.core_facts.specs.Table.{UnionRow, union_rows}
+use Rattle.core_modules.specs.Table.{UnionRow, union_rows}
 use Rattle.core_modules.specs.Library.{core_library}
-use Rattle.module_graph.specs.Graph.{names_of}
+use Rattle.import_graph.specs.Graph.{names_of}
 use Rattle.module_made.specs.Made.{Value}
-use Rattle.project_build.specs.Modules.{Part, core_names, parts_of, name_of}
+use Rattle.project_parts.specs.Modules.{Part, core_names, parts_of, name_of}
 use Rattle.project_parts.proofs.Naming.{core_names_are, part_names}
-use Rattle.build_laws.specs.Builds.{AreBuilt}
-use Rattle.told_builds.specs.Compiled.{Compiled, resolved_of}
-use Rattle.told_offers.proofs.Lists.{one_among}
+use Rattle.project_proper.specs.Builds.{AreBuilt}
+use Rattle.build_safety.specs.Compiled.{Compiled, resolved_of}
+use Rattle.told_modules.proofs.ToldOffersLists.{one_among}
 use Rattle.build_safety.specs.SoundWorlds.{HasModule, BuildsHaveCore}
 
 -- ---- the names of the table

@@ -9,17 +9,18 @@ use Rattle.elm_type.specs.Types.{ElmType, Leaf}
 use Rattle.type_items.specs.Annotations.{annotation_type, scheme_variable, number_of, own_variables}
 use Rattle.typed_values.specs.World.{Constructor, Among}
 use Rattle.canon_proper.proofs.Quiet.{append_none}
-use Rattle.core_facts.specs.Facts.{core_faults}
-use Rattle.core_facts.specs.Table.{UnionRow, union_rows, BareRow, bare_rows, bool_union, maybe_union, dict_union}
-use Rattle.core_facts.specs.Table.{cmd_union, sub_union, program_union}
-use Rattle.operator_faults.specs.Faults.{operator_faults}
-use Rattle.core_laws.specs.Facts.{HasFacts}
-use Rattle.core_laws.specs.Unions as core
-use Rattle.core_laws.specs.Unions.{constructors_of, HasCoreUnions}
-use Rattle.core_laws.proofs.Facts.{facts_hold}
-use Rattle.declared_schemes.specs.Schemes.{types_in, maker_type, constructor_of}
-use Rattle.told_builds.specs.Compiled.{Compiled, home_of, AreModules}
-use Rattle.told_builds.proofs.Among.{compiled_here, is_next}
+use Rattle.core_modules.specs.Facts.{core_faults}
+use Rattle.core_modules.specs.Table.{UnionRow, union_rows, BareRow, bare_rows, bool_union, maybe_union, dict_union}
+use Rattle.core_modules.specs.Table.{cmd_union, sub_union, program_union}
+use Rattle.module_offers.specs.Faults.{operator_faults}
+use Rattle.core_modules.specs.Faults.{port_faults}
+use Rattle.told_modules.specs.Facts.{HasFacts}
+use Rattle.told_modules.specs.Unions as core
+use Rattle.told_modules.specs.Unions.{constructors_of, HasCoreUnions}
+use Rattle.told_modules.proofs.Facts.{facts_hold}
+use Rattle.told_modules.specs.Schemes.{types_in, maker_type, constructor_of}
+use Rattle.build_safety.specs.Compiled.{Compiled, home_of, AreModules}
+use Rattle.build_safety.proofs.Among.{compiled_here, is_next}
 use Rattle.build_safety.specs.BuildWorlds.{constructors, unions_at, world}
 use Rattle.build_safety.proofs.UnionNames.{unions_found}
 use Rattle.build_safety.specs.SoundWorlds.{HasCore}
@@ -60,7 +61,8 @@ pub facts : (before : List Compiled) (c : Compiled) (after : List Compiled) → 
 unfolding operator_faults
 facts before c after all =
     facts_hold c.resolved.whole
-    (append_none _ (core_faults c.resolved.whole) (compiled_here before c after all).typed.is_named.whole).1
+    (append_none _ (core_faults c.resolved.whole)
+    (append_none _ (port_faults c.resolved.whole) (compiled_here before c after all).typed.is_named.whole).0).1
 
 none_left : {X : Type 0} (xs : List X) → ((x : X) → Among x xs → ⊥) → xs ≡ []
 none_left [] h = refl

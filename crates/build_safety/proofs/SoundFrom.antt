@@ -9,11 +9,11 @@ use Rattle.elm_canon.specs.declared.unions.Tag.TheVariants.{Number, Truth}
 use Rattle.elm_canon.specs.Tree.{UnionDeclaration}
 use Rattle.canon_env.proofs.Adding.{one_name}
 use Rattle.canon_env.specs.Imports.{name_of}
-use Rattle.canon_sites.specs.Naming.{World}
-use Rattle.canon_declared.specs.Unions.{is_type, tag_of, alternative_of, fields_of, unions_in, union_of}
+use Rattle.canon_env.specs.Naming.{World}
+use Rattle.canon_type.specs.Unions.{is_type, tag_of, alternative_of, fields_of, unions_in, union_of}
 use Rattle.typed_values.specs.World.{Constructor, Among}
-use Rattle.declared_schemes.specs.Schemes.{constructor_of}
-use Rattle.told_builds.specs.Compiled.{Compiled, home_of}
+use Rattle.told_modules.specs.Schemes.{constructor_of}
+use Rattle.build_safety.specs.Compiled.{Compiled, home_of}
 use Rattle.build_safety.specs.BuildWorlds.{constructors, constructors_in, unions_at}
 
 -- ---- a module at its place

@@ -5,14 +5,14 @@ use Rattle.elm_canon.specs.declared.unions.Tag.TheVariants.{Number}
 use Rattle.elm_canon.specs.Tree.{Payload}
 use Rattle.canon_module.specs.Resolve.{world_of}
 use Rattle.typed_values.specs.World.{Constructor, Among, IsNode}
-use Rattle.told_offers.proofs.Lists.{one_among}
-use Rattle.core_laws.specs.Unions.{MeetsCore}
-use Rattle.core_laws.proofs.Unions.{core_unions_meet}
-use Rattle.told_builds.specs.Compiled.{Compiled, home_of, AreModules}
-use Rattle.told_builds.proofs.Among.{is_next}
+use Rattle.told_modules.proofs.ToldOffersLists.{one_among}
+use Rattle.told_modules.specs.Unions.{MeetsCore}
+use Rattle.told_modules.proofs.Unions.{core_unions_meet}
+use Rattle.build_safety.specs.Compiled.{Compiled, home_of, AreModules}
+use Rattle.build_safety.proofs.Among.{is_next}
 use Rattle.build_safety.specs.BuildWorlds.{unions_at, world}
 use Rattle.build_safety.proofs.WorldUnions.{unions_sound}
-use Rattle.closed_fields.specs.Closed.{UnionIsClosed}
+use Rattle.told_modules.specs.Closed.{UnionIsClosed}
 use Rattle.build_safety.specs.ClosedMakers.{MakerIsClosed}
 use Rattle.build_safety.proofs.ClosedMakers.{makers_closed}
 use Rattle.build_safety.proofs.ClosedBuilds.{builds_closed}

@@ -4,7 +4,7 @@ use Rattle.std.proofs.Common.{subst, zero, suc, ◌+◌}
 use Rattle.std.specs.List.{AllByRecursion, enumerate_from}
 use Rattle.elm_canon.specs.declared.reference.Ref.{Ref}
 use Rattle.elm_canon.specs.Tree.{Annotation, Module}
-use Rattle.elm_proper.specs.Proper.{among}
+use Rattle.elm_canon.specs.Proper.{among}
 use Rattle.elm_type.specs.Schemes.{rename}
 use Rattle.type_items.specs.Items.{Place, child, Item}
 use Rattle.type_items.specs.Scopes.{Entry, Instance, Known, Scope, entry_of}
@@ -18,7 +18,7 @@ use Rattle.typed_values.specs.Simple.{AreApart}
 use Rattle.typed_values.specs.Sample.{sample, sample_frame}
 use Rattle.typed_values.proofs.Names.{not_both}
 use Rattle.typed_values.proofs.SampleWorld.{sample_is_sound}
-use Rattle.exhaustive_matches.proofs.Sound.{steps_keep_types}
+use Rattle.type_safety.proofs.Sound.{steps_keep_types}
 use Rattle.type_safety.specs.Modules.{groups_in, AreTitled, scope_after}
 use Rattle.type_safety.proofs.Modules.{declared_definitions}
 use Rattle.type_safety.proofs.Stagings.{Named, AllNamed, EachNamed, last_scope, adds_as, adds, adds_some, group_at}

@@ -13,7 +13,7 @@ use Rattle.elm_canon.specs.Tree.{Annotation, UnionDeclaration, AliasDeclaration,
 use Rattle.elm_canon.specs.Tree.{NoFunction, MoreFunction, Group, Declaration, Given, Define}
 use Rattle.elm_canon.specs.declared.reference.Ref.{Ref}
 use Rattle.elm_canon.specs.declared.reference.Ref.TheVariants.{Local, Top}
-use Rattle.elm_proper.specs.Proper.{function_names, group_names}
+use Rattle.elm_canon.specs.Proper.{function_names, group_names}
 use Rattle.elm_type.specs.Types.{Scheme}
 use Rattle.canon_env.proofs.Adding.{one_name}
 use Rattle.canon_env.specs.Imports.{exposes_type, exposes_makers}
@@ -22,7 +22,7 @@ use Rattle.canon_module.specs.Offers.{exposed_by}
 use Rattle.canon_module.specs.Resolve.{Setting, IsModule, module_faults, module_shows}
 use Rattle.module_proper.specs.Modules.{AreRead}
 use Rattle.interface.specs.Interface.{Value, in_order}
-use Rattle.scheme_order.specs.Order.{scheme_in_order}
+use Rattle.elm_type.specs.Order.{scheme_in_order}
 use Rattle.type_items.specs.Expressions.{definitions}
 use Rattle.type_items.specs.Inferred.{Schemes}
 use Rattle.type_items.specs.Modules.{Annotated, union_makers, alias_makers, declared}
@@ -33,12 +33,12 @@ use Rattle.program_safety.specs.Parts.{IsOf}
 use Rattle.module_offers.specs.Offers.{Typed, as_scheme, offered_types, value, defined_value, pattern_count}
 use Rattle.module_offers.specs.Offers.{function_values, group_values, declared_values, port_value, module_values}
 use Rattle.module_offers.specs.Offers.{is_offered, named_by, module_interface, type_in}
-use Rattle.declared_once.proofs.Defined.{none_defined}
-use Rattle.declared_once.proofs.Once.{declared_once}
-use Rattle.told_offers.specs.Offers.{HaveNoFields}
-use Rattle.told_offers.proofs.Lists.{all_among, all_both, all_first, all_second, all_passed, all_ordered}
-use Rattle.told_offers.proofs.Lists.{all_flat, each_flat}
-use Rattle.told_offers.proofs.Offers.{shown_makers}
+use Rattle.told_modules.proofs.Defined.{none_defined}
+use Rattle.told_modules.proofs.Once.{declared_once}
+use Rattle.told_modules.specs.Offers.{HaveNoFields}
+use Rattle.told_modules.proofs.ToldOffersLists.{all_among, all_both, all_first, all_second, all_passed, all_ordered}
+use Rattle.told_modules.proofs.ToldOffersLists.{all_flat, each_flat}
+use Rattle.told_modules.proofs.Offers.{shown_makers}
 
 -- what a declaration defines is of the module
 abbrev pub OwnNames : Name → Declaration → Type 0

@@ -12,20 +12,21 @@ use Rattle.elm_canon.specs.Tree.{Destructure, Declaration, Given, Define, Module
 use Rattle.elm_canon.specs.declared.reference.Ref.{Ref}
 use Rattle.elm_canon.specs.declared.reference.Ref.TheVariants.{Local, Top}
 use Rattle.elm_meaning.specs.Functions.{Primitive}
-use Rattle.elm_proper.specs.Proper.{among, function_names, group_names}
+use Rattle.elm_canon.specs.Proper.{among, function_names, group_names}
 use Rattle.elm_type.specs.Types.{Scheme}
-use Rattle.canon_makers.specs.Laws.{Meets}
-use Rattle.canon_makers.proofs.Modules.{modules_meet}
-use Rattle.canon_mentions.specs.Mentions.{anything, IsOfModule, DeclarationMentions}
+use Rattle.module_proper.specs.Laws.{Meets}
+use Rattle.module_proper.proofs.Modules.{modules_meet}
+use Rattle.elm_canon.specs.Mentions.{anything, IsOfModule, DeclarationMentions}
 use Rattle.canon_module.specs.Resolve.{module_faults}
 use Rattle.canon_proper.proofs.Quiet.{append_none}
 use Rattle.canon_proper.proofs.Scopes.{ref_itself}
-use Rattle.core_facts.specs.Facts.{core_faults, function_titles, titles_of}
-use Rattle.core_functions.specs.Cores.{core_of, named, primitive_of}
-use Rattle.core_laws.specs.Facts.{HasFacts}
-use Rattle.core_laws.proofs.Facts.{facts_hold}
-use Rattle.scheme_order.specs.Order.{scheme_in_order}
-use Rattle.operator_faults.specs.Faults.{operator_faults}
+use Rattle.core_modules.specs.Facts.{core_faults, function_titles, titles_of}
+use Rattle.link.specs.Cores.{core_of, named, primitive_of}
+use Rattle.told_modules.specs.Facts.{HasFacts}
+use Rattle.told_modules.proofs.Facts.{facts_hold}
+use Rattle.elm_type.specs.Order.{scheme_in_order}
+use Rattle.module_offers.specs.Faults.{operator_faults}
+use Rattle.core_modules.specs.Faults.{port_faults}
 use Rattle.type_items.specs.Annotations.{annotation_scheme}
 use Rattle.type_items.specs.Definitions.{Definition}
 use Rattle.type_items.specs.Expressions.{definitions}
@@ -42,13 +43,13 @@ use Rattle.program_safety.proofs.Primitives.{each_knows}
 use Rattle.module_offers.specs.Offers.{type_in, known_by}
 use Rattle.module_made.specs.Made.{root}
 use Rattle.build_safety.specs.ToldAnnotated.{IsAnnotated}
-use Rattle.told_builds.specs.Compiled.{Compiled, home_of, interface_of, resolved_of, AreModules}
-use Rattle.told_builds.specs.Told.{own, tells, told, part_of}
-use Rattle.told_builds.proofs.Among.{get_here, compiled_here, is_next, is_proper}
-use Rattle.told_builds.proofs.Told.{grows, told_at}
+use Rattle.build_safety.specs.Compiled.{Compiled, home_of, interface_of, resolved_of, AreModules}
+use Rattle.build_safety.specs.Told.{own, tells, told, part_of}
+use Rattle.build_safety.proofs.Among.{get_here, compiled_here, is_next, is_proper}
+use Rattle.build_safety.proofs.Told.{grows, told_at}
 use Rattle.told_modules.proofs.Names.{names_apart}
 use Rattle.project_proper.specs.Resolved.{scope_after as scope_before}
-use Rattle.more_known.proofs.Modules.{same_types}
+use Rattle.type_items.proofs.Modules.{same_types}
 use Rattle.build_safety.specs.ToldPrimitives.{IsCore, PrimitivesAreTold}
 use Rattle.build_safety.proofs.ToldAnnotated.{annotated}
 use Rattle.build_safety.proofs.ToldOffers.{OwnNames, offers_exact}
@@ -171,7 +172,9 @@ module _ (before : List Compiled) (c : Compiled) (after : List Compiled) (all : 
   -- it lacks nothing
   no_core_faults : core_faults m ≡ []
   unfolding operator_faults
-  no_core_faults = (append_none _ (core_faults m) (compiled_here before c after all).typed.is_named.whole).1
+  no_core_faults =
+      (append_none _ (core_faults m)
+      (append_none _ (port_faults m) (compiled_here before c after all).typed.is_named.whole).0).1
 
   facts : HasFacts m
   facts = facts_hold m no_core_faults

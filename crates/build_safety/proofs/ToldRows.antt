@@ -10,14 +10,14 @@ use Rattle.elm_canon.specs.Tree.{Variable}
 use Rattle.elm_meaning.specs.Functions.{Primitive}
 use Rattle.elm_type.specs.Schemes.{rename}
 use Rattle.canon_env.proofs.Adding.{one_name}
-use Rattle.scheme_order.specs.Order.{scheme_in_order}
-use Rattle.core_functions.specs.Cores.{Row, basics_rows, bitwise_rows, char_rows, debug_rows, string_rows, rows_of}
-use Rattle.core_functions.specs.Cores.{look}
-use Rattle.core_functions.specs.Cores.{primitive_of}
+use Rattle.elm_type.specs.Order.{scheme_in_order}
+use Rattle.link.specs.Cores.{Row, basics_rows, bitwise_rows, char_rows, debug_rows, string_rows, rows_of}
+use Rattle.link.specs.Cores.{look}
+use Rattle.link.specs.Cores.{primitive_of}
 use Rattle.type_items.specs.Annotations.{annotation_scheme}
 use Rattle.typed_values.specs.World.{Among}
 use Rattle.program_safety.specs.Primitives.{types_of_primitive}
-use Rattle.core_facts.specs.Table.{FunctionRow, function_rows, row, int, char, text, ◌→→◌}
+use Rattle.core_modules.specs.Table.{FunctionRow, function_rows, row, int, char, text, ◌→→◌}
 
 -- a row of the table for the function x of a module, whose type is one of the primitive's, in its one form
 pub record IsRow (home x : Name) (p : Primitive) : Type 0 where

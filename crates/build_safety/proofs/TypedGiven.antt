@@ -7,30 +7,30 @@ use Rattle.elm_tree.specs.Tree.{Word, TypeTree}
 use Rattle.elm_canon.specs.Names.{Name}
 use Rattle.elm_canon.specs.Tree.{Annotation, Group, Declaration, Given, Define, Maker, RecordMaker, OutPort, InPort}
 use Rattle.elm_canon.specs.Tree.{Payload, PortDeclaration, UnionDeclaration}
-use Rattle.canon_blocks.specs.Blocks.{Made, group_of}
-use Rattle.canon_declared.specs.Unions.{UnionTree, unions_in, union_of, alternatives_of}
+use Rattle.canon_expr.specs.Blocks.{Made, group_of}
+use Rattle.canon_type.specs.Unions.{UnionTree, unions_in, union_of, alternatives_of}
 use Rattle.canon_env.specs.Imports.{name_of}
 use Rattle.canon_module.specs.Resolve.{maker_of, record_maker, makers_in, ports_in}
 use Rattle.canon_proper.proofs.Quiet.{append_none}
-use Rattle.canon_sites.specs.Naming as naming
-use Rattle.canon_types.specs.Written.{AliasTree, aliases_in}
-use Rattle.canon_values.specs.Faults.{declaration_faults}
-use Rattle.canon_values.specs.Items.{items_of, annotation_by}
-use Rattle.declared_once.proofs.Each.{both_all, IsItem, each_declaration}
-use Rattle.elm_proper.specs.Proper.{Scope, with_all}
-use Rattle.elm_proper.specs.Declarations.{ProperDeclarations, declared_names, is_proper_known}
+use Rattle.canon_env.specs.Naming as naming
+use Rattle.canon_type.specs.Written.{AliasTree, aliases_in}
+use Rattle.canon_module.specs.CanonValuesFaults.{declaration_faults}
+use Rattle.canon_module.specs.Items.{items_of, annotation_by}
+use Rattle.told_modules.proofs.Each.{both_all, IsItem, each_declaration}
+use Rattle.elm_canon.specs.Proper.{Scope, with_all}
+use Rattle.elm_canon.specs.Declarations.{ProperDeclarations, declared_names, is_proper_known}
 use Rattle.emit_size_laws.specs.Small.{PortsHaveFields}
 use Rattle.type_items.specs.Scopes as scopes
 use Rattle.typed_values.specs.World.{World, Among}
 use Rattle.type_safety.specs.Modules.{AreTyped}
 use Rattle.program_safety.specs.Parts.{AreSome}
 use Rattle.project_proper.specs.Resolved.{scope_after}
-use Rattle.declared_schemes.specs.Schemes.{HasNoBlank}
-use Rattle.told_builds.specs.Compiled.{Compiled, resolved_of, AreModules}
-use Rattle.told_builds.proofs.Among.{is_proper}
+use Rattle.told_modules.specs.Schemes.{HasNoBlank}
+use Rattle.build_safety.specs.Compiled.{Compiled, resolved_of, AreModules}
+use Rattle.build_safety.proofs.Among.{is_proper}
 use Rattle.build_safety.proofs.ClosedBuilds.{builds_closed}
 use Rattle.build_safety.specs.BuildWorlds.{world}
-use Rattle.kept_ports.specs.Ports.{KeepsPorts}
+use Rattle.program_safety.specs.Ports.{KeepsPorts}
 use Rattle.build_safety.specs.PortWorlds.{Carries}
 use Rattle.build_safety.specs.TypedMakers.{GivenAreTyped}
 use Rattle.build_safety.proofs.TypedWanted as wanted

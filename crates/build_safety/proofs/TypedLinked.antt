@@ -9,11 +9,11 @@ use Rattle.emit_size_laws.specs.Small.{PortsHaveFields}
 use Rattle.program_safety.specs.Parts.{bound_with, primitive_names}
 use Rattle.type_items.specs.Modules.{known_in}
 use Rattle.type_safety.specs.Modules.{AreTyped}
-use Rattle.told_builds.specs.Compiled.{Compiled, AreModules}
-use Rattle.told_builds.specs.Told.{told}
+use Rattle.build_safety.specs.Compiled.{Compiled, AreModules}
+use Rattle.build_safety.specs.Told.{told}
 use Rattle.build_safety.specs.BuildWorlds.{world}
-use Rattle.kept_ports.specs.Ports.{KeepsPorts}
-use Rattle.placed_builds.specs.Placed.{Piece, modules_of, declarations_of}
+use Rattle.program_safety.specs.Ports.{KeepsPorts}
+use Rattle.build_safety.specs.Placed.{Piece, modules_of, declarations_of}
 use Rattle.build_safety.specs.LinkedPieces.{linked_program, linked_pieces, AreLinked, HasPieces}
 use Rattle.build_safety.proofs.LinkedPieces.{links_have_pieces}
 use Rattle.build_safety.specs.PortWorlds.{outs_of, ins_of, Carries, AllCarry, program_world}

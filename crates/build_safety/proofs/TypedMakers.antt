@@ -12,15 +12,15 @@ use Rattle.elm_canon.specs.declared.unions.Alternative.{Alternative}
 use Rattle.elm_canon.specs.declared.unions.Tag.{Tag}
 use Rattle.elm_canon.specs.declared.unions.Tag.TheVariants.{Number}
 use Rattle.elm_meaning.specs.Seen.{same_tag}
-use Rattle.canon_declared.specs.Unions.{UnionTree, union_of, alternatives_of}
+use Rattle.canon_type.specs.Unions.{UnionTree, union_of, alternatives_of}
 use Rattle.canon_env.specs.Imports.{name_of}
 use Rattle.canon_module.specs.Resolve.{maker_of}
 use Rattle.typed_values.specs.World.{Constructor, Among, is_port_tag}
-use Rattle.told_builds.specs.Compiled.{Compiled, AreModules}
+use Rattle.build_safety.specs.Compiled.{Compiled, AreModules}
 use Rattle.build_safety.specs.BuildWorlds.{world, constructors, unions_at}
 use Rattle.build_safety.proofs.UnionNames.{unions_found}
 use Rattle.build_safety.proofs.WorldUnions.{unions_declared}
-use Rattle.kept_ports.specs.Ports.{is_port_home}
+use Rattle.program_safety.specs.Ports.{is_port_home}
 use Rattle.build_safety.proofs.TypedLists.{picked}
 use Rattle.build_safety.proofs.TypedWanted as wanted
 use Rattle.build_safety.proofs.TypedWanted.{Wanted}

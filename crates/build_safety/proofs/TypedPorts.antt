@@ -8,22 +8,22 @@ use Rattle.elm_canon.specs.Tree.{Annotation, Variable, NamedType, FunctionType, 
 use Rattle.elm_canon.specs.Tree.{NoAnnotation, MoreAnnotation, Payload, PortDeclaration, Known, OutPort, InPort, Given}
 use Rattle.elm_canon.specs.declared.reference.Ref.TheVariants.{Top}
 use Rattle.canon_env.specs.Imports.{name_of}
-use Rattle.canon_sites.specs.Naming as naming
-use Rattle.canon_sites.specs.Sites.{faults_at}
-use Rattle.canon_sites.specs.Types.{type_of, type_sites}
+use Rattle.canon_env.specs.Naming as naming
+use Rattle.canon_env.specs.Sites.{faults_at}
+use Rattle.canon_env.specs.Types.{type_of, type_sites}
 use Rattle.canon_proper.proofs.Quiet.{append_none}
 use Rattle.canon_type.specs.Ports.{PortForm, Outgoing, Incoming, NoPort, Untold, unless_blank, incoming_form, form_to}
 use Rattle.canon_type.specs.Ports.{port_form, is_type, is_variable, same_variable}
-use Rattle.canon_values.specs.Ports.{port_faults, form_faults, unless_payload, payload_or_int, known_by, port_known}
-use Rattle.canon_values.specs.Ports.{port_of}
+use Rattle.canon_module.specs.Ports.{port_faults, form_faults, unless_payload, payload_or_int, known_by, port_known}
+use Rattle.canon_module.specs.Ports.{port_of}
 use Rattle.port_payload.specs.Payloads.{payload_of}
 use Rattle.type_items.specs.Annotations.{written, written_all, annotation_scheme}
 use Rattle.type_items.specs.Modules.{Annotated, union_makers, alias_makers, declared}
 use Rattle.typed_values.specs.World.{Among}
-use Rattle.declared_schemes.specs.Schemes.{HasNoBlank}
-use Rattle.declared_schemes.proofs.Payloads.{payloads_once, named_first}
-use Rattle.declared_schemes.proofs.Ports.{IsOut, IsIn, Says, form_says, ports_have}
-use Rattle.told_builds.specs.Compiled.{Compiled, AreModules}
+use Rattle.told_modules.specs.Schemes.{HasNoBlank}
+use Rattle.told_modules.proofs.Payloads.{payloads_once, named_first}
+use Rattle.told_modules.proofs.Ports.{IsOut, IsIn, Says, form_says, ports_have}
+use Rattle.build_safety.specs.Compiled.{Compiled, AreModules}
 use Rattle.build_safety.specs.BuildWorlds.{world}
 use Rattle.build_safety.proofs.WorldExact.{among_right}
 use Rattle.build_safety.proofs.TypedLists.{mapped_there}

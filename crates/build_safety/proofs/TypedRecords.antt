@@ -9,24 +9,24 @@ use Rattle.elm_canon.specs.Names.{Name}
 use Rattle.elm_canon.specs.Tree.{Payload, FieldTypes, RecordType, field_names, PortDeclaration}
 use Rattle.elm_type.specs.Types.{functions}
 use Rattle.elm_type.specs.Rows.{closed}
-use Rattle.binding_groups.specs.InOrder.{uses_itself}
-use Rattle.canon_aliases.specs.Types.{alias_of}
+use Rattle.decl_groups.specs.InOrder.{uses_itself}
+use Rattle.canon_type.specs.Types.{alias_of}
 use Rattle.canon_env.specs.Imports.{name_of}
 use Rattle.canon_env.specs.declared.finding.Finding.{Finding}
 use Rattle.canon_module.specs.Resolve.{record_maker}
-use Rattle.canon_sites.specs.Expanding.{blank}
-use Rattle.canon_sites.specs.Naming as naming
-use Rattle.canon_sites.specs.Types.{field_words, field_types_of, type_of}
-use Rattle.canon_types.specs.Recursion.{alias_fault}
-use Rattle.canon_types.specs.Written.{AliasTree, aliases_in}
-use Rattle.declared_types.specs.Types.{uses_in}
+use Rattle.canon_env.specs.Expanding.{blank}
+use Rattle.canon_env.specs.Naming as naming
+use Rattle.canon_env.specs.Types.{field_words, field_types_of, type_of}
+use Rattle.canon_type.specs.Recursion.{alias_fault}
+use Rattle.canon_type.specs.Written.{AliasTree, aliases_in}
+use Rattle.canon_type.specs.DeclaredTypes.{uses_in}
 use Rattle.type_items.specs.Annotations.{annotation_scheme}
 use Rattle.type_items.specs.Modules.{Annotated, function_to, field_types, union_makers, alias_makers, declared}
 use Rattle.type_items.specs.Modules as items
 use Rattle.typed_values.specs.World.{Among}
-use Rattle.declared_schemes.specs.Schemes.{record_types}
-use Rattle.declared_schemes.proofs.Makers.{records_have}
-use Rattle.told_builds.specs.Compiled.{Compiled, AreModules}
+use Rattle.told_modules.specs.Schemes.{record_types}
+use Rattle.told_modules.proofs.Makers.{records_have}
+use Rattle.build_safety.specs.Compiled.{Compiled, AreModules}
 use Rattle.build_safety.specs.BuildWorlds.{world}
 use Rattle.build_safety.proofs.WorldExact.{among_left, among_right}
 use Rattle.build_safety.proofs.TypedLists.{mapped_there, flat_there, none_of}

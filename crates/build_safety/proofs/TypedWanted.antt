@@ -11,14 +11,14 @@ use Rattle.elm_canon.specs.Tree.{Known, Maker, RecordMaker, OutPort, InPort, Dec
 use Rattle.canon_module.specs.Resolve.{Setting, IsModule, module_faults, heading_faults, world_of}
 use Rattle.canon_proper.proofs.Quiet.{append_none}
 use Rattle.canon_proper.proofs.Scopes.{name_itself}
-use Rattle.canon_sites.specs.Naming as naming
-use Rattle.canon_types.specs.Parameters.{parameter_faults}
-use Rattle.canon_types.specs.Recursion.{recursion_faults}
-use Rattle.canon_types.specs.Written.{aliases_in, union_names_in}
-use Rattle.canon_sites.specs.Sites.{faults_at}
-use Rattle.canon_values.specs.Faults.{declaration_faults, value_faults}
-use Rattle.declared_types.specs.Types.{declared_faults, declared_sites}
-use Rattle.elm_proper.specs.Declarations.{is_proper_known}
+use Rattle.canon_env.specs.Naming as naming
+use Rattle.canon_type.specs.Parameters.{parameter_faults}
+use Rattle.canon_type.specs.Recursion.{recursion_faults}
+use Rattle.canon_type.specs.Written.{aliases_in, union_names_in}
+use Rattle.canon_env.specs.Sites.{faults_at}
+use Rattle.canon_module.specs.CanonValuesFaults.{declaration_faults, value_faults}
+use Rattle.canon_type.specs.DeclaredTypes.{declared_faults, declared_sites}
+use Rattle.elm_canon.specs.Declarations.{is_proper_known}
 use Rattle.emit_size_laws.specs.Small.{HasFields}
 use Rattle.module_proper.specs.Modules.{AreRead}
 use Rattle.type_items.specs.Annotations.{annotation_scheme}
@@ -26,11 +26,11 @@ use Rattle.type_items.specs.Modules.{Annotated, declared, known_in}
 use Rattle.type_items.specs.Scopes as scopes
 use Rattle.typed_values.specs.World.{World, Among}
 use Rattle.type_safety.specs.Modules.{IsTyped}
-use Rattle.declared_once.proofs.Once.{declared_once}
-use Rattle.told_builds.specs.Compiled.{Compiled, home_of, AreModules}
-use Rattle.told_builds.specs.Told.{told}
-use Rattle.told_builds.proofs.Among.{is_next}
-use Rattle.kept_ports.specs.Ports.{IsUnsentMaker}
+use Rattle.told_modules.proofs.Once.{declared_once}
+use Rattle.build_safety.specs.Compiled.{Compiled, home_of, AreModules}
+use Rattle.build_safety.specs.Told.{told}
+use Rattle.build_safety.proofs.Among.{is_next}
+use Rattle.program_safety.specs.Ports.{IsUnsentMaker}
 use Rattle.build_safety.specs.PortWorlds.{Carries}
 
 -- the records that cross a port have words for fields, each once

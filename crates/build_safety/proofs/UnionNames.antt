@@ -12,23 +12,23 @@ use Rattle.elm_canon.specs.Tree.{UnionDeclaration}
 use Rattle.canon_env.proofs.Adding.{same_name-sym}
 use Rattle.canon_env.specs.Exposing.{import_faults}
 use Rattle.canon_env.specs.Imports.{name_of}
-use Rattle.canon_sites.specs.Naming.{World}
-use Rattle.canon_sites.specs.Sites.{repeats}
-use Rattle.canon_declared.specs.Unions.{unions_in, union_of}
-use Rattle.canon_names.specs.Names.{Names, names_in}
-use Rattle.canon_names.specs.Faults.{duplicate_faults}
+use Rattle.canon_env.specs.Naming.{World}
+use Rattle.canon_env.specs.Sites.{repeats}
+use Rattle.canon_type.specs.Unions.{unions_in, union_of}
+use Rattle.canon_module.specs.Names.{Names, names_in}
+use Rattle.canon_module.specs.Faults.{duplicate_faults}
 use Rattle.canon_proper.proofs.Quiet.{append_none, map_none}
 use Rattle.canon_proper.proofs.Scopes.{name_itself}
-use Rattle.canon_values.specs.Faults.{value_faults}
-use Rattle.declared_types.specs.Types.{declared_faults}
+use Rattle.canon_module.specs.CanonValuesFaults.{value_faults}
+use Rattle.canon_type.specs.DeclaredTypes.{declared_faults}
 use Rattle.canon_module.specs.Resolve.{Setting, IsModule, module_faults, heading_faults, world_of}
 use Rattle.module_proper.proofs.Makers.{tops_fresh}
 use Rattle.typed_values.specs.World.{Among}
 use Rattle.project_proper.specs.Resolved.{HomesApart}
-use Rattle.declared_once.proofs.Counts.{one_if, times, fresh_times}
-use Rattle.told_builds.specs.Compiled.{Compiled, home_of, resolved_of}
-use Rattle.told_builds.proofs.Among.{get_here, compiled_here, is_next}
-use Rattle.told_builds.proofs.Told.{other_home}
+use Rattle.told_modules.proofs.Counts.{one_if, times, fresh_times}
+use Rattle.build_safety.specs.Compiled.{Compiled, home_of, resolved_of}
+use Rattle.build_safety.proofs.Among.{get_here, compiled_here, is_next}
+use Rattle.build_safety.proofs.Told.{other_home}
 use Rattle.build_safety.specs.BuildWorlds.{constructors, constructors_in, unions_at}
 use Rattle.build_safety.specs.UnionNames.{UnionsAreFound}
 

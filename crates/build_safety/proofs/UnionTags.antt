@@ -12,13 +12,13 @@ use Rattle.elm_canon.specs.declared.unions.Tag.TheVariants.{Number, Truth}
 use Rattle.elm_type.specs.Types.{ElmType}
 use Rattle.elm_meaning.specs.Seen.{same_tag, same_kind}
 use Rattle.canon_env.specs.Imports.{name_of}
-use Rattle.canon_sites.specs.Naming.{World}
-use Rattle.canon_sites.specs.Types.{types_of}
-use Rattle.canon_declared.specs.Unions.{is_type, tag_of, type_count, alternative_of, fields_of, unions_in, union_of}
+use Rattle.canon_env.specs.Naming.{World}
+use Rattle.canon_env.specs.Types.{types_of}
+use Rattle.canon_type.specs.Unions.{is_type, tag_of, type_count, alternative_of, fields_of, unions_in, union_of}
 use Rattle.canon_module.specs.Resolve.{world_of}
 use Rattle.module_proper.specs.Counted.{HaveFewer, AllHaveFew}
 use Rattle.typed_values.specs.World.{Constructor, Among, is_negative}
-use Rattle.declared_schemes.specs.Schemes.{types_in, constructor_of}
+use Rattle.told_modules.specs.Schemes.{types_in, constructor_of}
 use Rattle.build_safety.specs.BuildWorlds.{constructors}
 use Rattle.build_safety.specs.UnionTags.{AreTagged, UnionsAreTagged}
 

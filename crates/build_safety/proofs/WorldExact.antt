@@ -20,7 +20,7 @@ use Rattle.canon_env.specs.Shown.{Shown}
 use Rattle.canon_module.specs.Offers.{exposed_by}
 use Rattle.canon_module.specs.Resolve.{Setting, IsModule, module_faults, module_shows}
 use Rattle.canon_proper.proofs.Scopes.{name_itself, ref_itself}
-use Rattle.elm_proper.specs.Proper.{among, IsIn}
+use Rattle.elm_canon.specs.Proper.{among, IsIn}
 use Rattle.module_proper.specs.Modules.{AreRead, tops}
 use Rattle.module_proper.proofs.Numbers.{one_home, no_local}
 use Rattle.interface.specs.Interface.{Value, in_order}
@@ -36,13 +36,13 @@ use Rattle.program_safety.specs.Parts.{IsOf}
 use Rattle.module_offers.specs.Offers.{Typed, as_scheme, offered_types, value, defined_value, pattern_count}
 use Rattle.module_offers.specs.Offers.{function_values, group_values, declared_values, port_value, module_values}
 use Rattle.module_offers.specs.Offers.{is_offered, named_by, module_interface, type_in}
-use Rattle.declared_once.proofs.Counts.{times, names, one_if}
-use Rattle.declared_once.proofs.Defined.{none_defined, defined_is}
-use Rattle.declared_once.proofs.Once.{declared_once, declared_times, defined_in, more_times}
-use Rattle.told_offers.specs.Offers.{HaveNoFields}
-use Rattle.told_offers.proofs.Lists.{all_among, all_both, all_first, all_second, all_passed, all_ordered}
-use Rattle.told_offers.proofs.Lists.{all_flat, each_flat}
-use Rattle.told_offers.proofs.Offers.{shown_makers}
+use Rattle.told_modules.proofs.Counts.{times, names, one_if}
+use Rattle.told_modules.proofs.Defined.{none_defined, defined_is}
+use Rattle.told_modules.proofs.Once.{declared_once, declared_times, defined_in, more_times}
+use Rattle.told_modules.specs.Offers.{HaveNoFields}
+use Rattle.told_modules.proofs.ToldOffersLists.{all_among, all_both, all_first, all_second, all_passed, all_ordered}
+use Rattle.told_modules.proofs.ToldOffersLists.{all_flat, each_flat}
+use Rattle.told_modules.proofs.Offers.{shown_makers}
 
 -- ---- lists
 

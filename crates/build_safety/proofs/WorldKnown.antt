@@ -5,14 +5,14 @@ use Rattle.std.specs.Prelude.{slice_get}
 use Rattle.elm_canon.specs.Names.{Name, same_name}
 use Rattle.canon_env.proofs.Adding.{same_name-sym}
 use Rattle.canon_proper.proofs.Scopes.{name_itself}
-use Rattle.elm_proper.specs.Spelled.{is_module}
+use Rattle.elm_canon.specs.Spelled.{is_module}
 use Rattle.type_items.specs.Scopes.{Known}
 use Rattle.type_items.specs.Modules.{known_in}
 use Rattle.project_proper.specs.Resolved.{HomesApart}
-use Rattle.told_builds.specs.Compiled.{Compiled, home_of, resolved_of, AreModules}
-use Rattle.told_builds.specs.Told.{told}
-use Rattle.told_builds.proofs.Among.{get_here, is_next}
-use Rattle.told_builds.proofs.Told.{other_home}
+use Rattle.build_safety.specs.Compiled.{Compiled, home_of, resolved_of, AreModules}
+use Rattle.build_safety.specs.Told.{told}
+use Rattle.build_safety.proofs.Among.{get_here, is_next}
+use Rattle.build_safety.proofs.Told.{other_home}
 use Rattle.build_safety.specs.BuildWorlds.{known_at, ModulesAreKnown}
 
 -- no module has a name of no letters

@@ -22,12 +22,12 @@ use Rattle.type_items.specs.Scopes.{Known}
 use Rattle.typed_values.specs.World.{Constructor, Among, KnownIn, made_type}
 use Rattle.module_offers.specs.Offers.{type_in}
 use Rattle.project_proper.specs.Resolved.{HomesApart}
-use Rattle.declared_schemes.specs.Schemes.{constructor_of}
-use Rattle.declared_schemes.proofs.Makers.{makers_have}
-use Rattle.told_builds.specs.Compiled.{Compiled, home_of, interface_of, resolved_of, IsCompiled, AreModules}
-use Rattle.told_builds.specs.Told.{own, tells, told}
-use Rattle.told_builds.proofs.Among.{get_here, compiled_here, is_next}
-use Rattle.told_builds.proofs.Told.{other_home, told_at}
+use Rattle.told_modules.specs.Schemes.{constructor_of}
+use Rattle.told_modules.proofs.Makers.{makers_have}
+use Rattle.build_safety.specs.Compiled.{Compiled, home_of, interface_of, resolved_of, IsCompiled, AreModules}
+use Rattle.build_safety.specs.Told.{own, tells, told}
+use Rattle.build_safety.proofs.Among.{get_here, compiled_here, is_next}
+use Rattle.build_safety.proofs.Told.{other_home, told_at}
 use Rattle.build_safety.specs.BuildWorlds.{known_at, constructors, constructors_in, unions_at, world, MakersAreKnown}
 use Rattle.build_safety.proofs.WorldExact.{among_left, among_right, found, undefined, offered_exact}
 

@@ -8,13 +8,13 @@ use Rattle.elm_canon.specs.Unions.{Declared}
 use Rattle.elm_canon.specs.Tree.{UnionDeclaration}
 use Rattle.canon_env.proofs.Adding.{one_name}
 use Rattle.canon_env.specs.Imports.{name_of}
-use Rattle.canon_sites.specs.Naming.{World}
-use Rattle.canon_declared.specs.Unions.{alternative_of, fields_of, unions_in, union_of}
+use Rattle.canon_env.specs.Naming.{World}
+use Rattle.canon_type.specs.Unions.{alternative_of, fields_of, unions_in, union_of}
 use Rattle.canon_module.specs.Resolve.{world_of}
 use Rattle.typed_values.specs.World.{Constructor, Among}
-use Rattle.declared_schemes.specs.Schemes.{constructor_of}
-use Rattle.told_builds.specs.Compiled.{Compiled, home_of, AreModules}
-use Rattle.told_builds.proofs.Among.{is_next}
+use Rattle.told_modules.specs.Schemes.{constructor_of}
+use Rattle.build_safety.specs.Compiled.{Compiled, home_of, AreModules}
+use Rattle.build_safety.proofs.Among.{is_next}
 use Rattle.build_safety.specs.BuildWorlds.{constructors, constructors_in, unions_at}
 use Rattle.build_safety.proofs.WorldMakers.{makers_known}
 use Rattle.build_safety.specs.UnionTags.{AreTagged}

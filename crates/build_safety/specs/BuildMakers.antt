@@ -2,10 +2,10 @@
 use Rattle.std.specs.Prelude.{◌≡◌, List, ◌∷◌, ◌++◌, Option}
 use Rattle.elm_canon.specs.Names.{Name}
 use Rattle.elm_canon.specs.Tree.{Payload}
-use Rattle.canon_mentions.specs.Mentions.{DeclarationsMention}
-use Rattle.told_builds.specs.Compiled.{Compiled, home_of, AreModules}
+use Rattle.elm_canon.specs.Mentions.{DeclarationsMention}
+use Rattle.build_safety.specs.Compiled.{Compiled, home_of, AreModules}
 use Rattle.build_safety.specs.BuildWorlds.{world}
-use Rattle.kept_ports.specs.Ports.{IsOfWorld}
+use Rattle.program_safety.specs.Ports.{IsOfWorld}
 
 -- they are constructors of the unions of the build's world
 abbrev pub MentionsAreOfWorld : Type 0

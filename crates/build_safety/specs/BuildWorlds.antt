@@ -9,9 +9,9 @@ use Rattle.elm_type.specs.Types.{Scheme, functions}
 use Rattle.type_items.specs.Scopes.{Known}
 use Rattle.type_items.specs.Modules.{known_in}
 use Rattle.typed_values.specs.World.{World, Constructor, Among, KnownIn, made_type}
-use Rattle.declared_schemes.specs.Schemes.{constructor_of}
-use Rattle.told_builds.specs.Compiled.{Compiled, home_of, AreModules}
-use Rattle.told_builds.specs.Told.{told}
+use Rattle.told_modules.specs.Schemes.{constructor_of}
+use Rattle.build_safety.specs.Compiled.{Compiled, home_of, AreModules}
+use Rattle.build_safety.specs.Told.{told}
 
 -- what a module knows, by its name; by another name what all tell
 abbrev pub known_at : List Compiled → Known → Name → Known

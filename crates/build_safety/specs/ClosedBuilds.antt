@@ -1,7 +1,7 @@
 -- The modules of a build declare types whose variables are their parameters.
 use Rattle.std.specs.Prelude.{List, ◌∷◌, ◌++◌}
-use Rattle.closed_fields.specs.Closed.{HasClosedTypes}
-use Rattle.told_builds.specs.Compiled.{Compiled, AreModules}
+use Rattle.told_modules.specs.Closed.{HasClosedTypes}
+use Rattle.build_safety.specs.Compiled.{Compiled, AreModules}
 
 abbrev pub BuildsAreClosed : Type 0
 BuildsAreClosed =

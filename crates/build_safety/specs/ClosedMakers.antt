@@ -6,8 +6,8 @@ use Rattle.elm_canon.specs.Unions.{alternatives}
 use Rattle.elm_canon.specs.Tree.{UnionDeclaration}
 use Rattle.elm_type.specs.Types.{variables}
 use Rattle.typed_values.specs.World.{Constructor, Among, IsOneOf}
-use Rattle.declared_schemes.specs.Schemes.{constructor_of}
-use Rattle.closed_fields.specs.Closed.{UnionIsClosed}
+use Rattle.told_modules.specs.Schemes.{constructor_of}
+use Rattle.told_modules.specs.Closed.{UnionIsClosed}
 
 -- the variables of the types of its fields are arguments of its union
 abbrev pub MakerIsClosed : Constructor → Type 0

@@ -34,5 +34,18 @@ pub mod TypedMakers
 pub mod PlacedLinks
 -- what is told of a program's start
 pub mod LinkedMain
+-- modules that leave commands and subscriptions as ports made them, and links of them
+pub mod KeptLinks
 -- programs of builds that never get stuck
 pub mod Safety
+-- what the output of a build means
+pub mod Meaning
+pub mod Laws
+-- modules of a build as they were compiled
+pub mod Compiled
+-- what they tell
+pub mod Told
+-- builds of good modules
+pub mod Builds
+-- programs that are placed in a build
+pub mod Placed

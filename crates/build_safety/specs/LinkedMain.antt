@@ -8,9 +8,9 @@ use Rattle.emit_size_laws.specs.Small.{NamedProgram}
 use Rattle.program_safety.specs.Parts.{primitive_names}
 use Rattle.program_safety.specs.Programs.{IsMain}
 use Rattle.project_proper.specs.Resolved.{source_of}
-use Rattle.told_builds.specs.Compiled.{Compiled, resolved_of, AreModules}
-use Rattle.told_builds.specs.Told.{told}
-use Rattle.placed_builds.specs.Placed.{bound_by}
+use Rattle.build_safety.specs.Compiled.{Compiled, resolved_of, AreModules}
+use Rattle.build_safety.specs.Told.{told}
+use Rattle.build_safety.specs.Placed.{bound_by}
 use Rattle.build_safety.specs.LinkedPieces.{linked_pieces, linked_program}
 
 abbrev pub LinksHaveMain : Type 0

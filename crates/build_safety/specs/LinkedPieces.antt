@@ -13,8 +13,8 @@ use Rattle.link.specs.Link.{main_name}
 use Rattle.link.specs.Programs.{Item, items_of, item_names, item_uses, declarations_in, program_of}
 use Rattle.program_safety.specs.Parts.{AreSome, bound_with, none_but, primitive_names}
 use Rattle.project_proper.specs.Resolved.{source_of}
-use Rattle.told_builds.specs.Compiled.{Compiled, resolved_of, AreModules}
-use Rattle.placed_builds.specs.Placed.{Piece, modules_of, declarations_of}
+use Rattle.build_safety.specs.Compiled.{Compiled, resolved_of, AreModules}
+use Rattle.build_safety.specs.Placed.{Piece, modules_of, declarations_of}
 
 abbrev pub items : Compiled → List Item
 items c = items_of (source_of c.resolved)

@@ -5,9 +5,9 @@ use Rattle.elm_canon.specs.declared.reference.Ref.{Ref}
 use Rattle.typed_values.specs.World.{World}
 use Rattle.program_safety.specs.Parts.{ArePrimitives, IsNotOf, IsEarlier, bound_with, primitive_names}
 use Rattle.type_items.specs.Scopes.{Known}
-use Rattle.told_builds.specs.Compiled.{Compiled, AreModules}
-use Rattle.told_builds.specs.Told.{told}
-use Rattle.placed_builds.specs.Placed.{Piece, piece_part}
+use Rattle.build_safety.specs.Compiled.{Compiled, AreModules}
+use Rattle.build_safety.specs.Told.{told}
+use Rattle.build_safety.specs.Placed.{Piece, piece_part}
 use Rattle.build_safety.specs.LinkedPieces.{linked_pieces, linked_program}
 
 abbrev pub IsElsewhere : Known → (Ref → Bool) → Piece → Type 0

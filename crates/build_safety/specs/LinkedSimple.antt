@@ -4,9 +4,9 @@ use Rattle.std.specs.List.{AllByRecursion}
 use Rattle.elm_canon.specs.Names.{Name}
 use Rattle.elm_canon.specs.Tree.{Payload}
 use Rattle.emit_size_laws.specs.Small.{NamedProgram}
-use Rattle.told_builds.specs.Compiled.{Compiled, AreModules}
+use Rattle.build_safety.specs.Compiled.{Compiled, AreModules}
 use Rattle.build_safety.specs.BuildWorlds.{world}
-use Rattle.kept_ports.specs.Ports.{KeepsPorts}
+use Rattle.program_safety.specs.Ports.{KeepsPorts}
 use Rattle.build_safety.specs.LinkedPieces.{linked_pieces, linked_program}
 use Rattle.build_safety.specs.PlacedLinks.{AreSimple}
 

@@ -11,9 +11,9 @@ use Rattle.typed_values.specs.Simple.{SimpleGroups}
 use Rattle.type_safety.specs.Modules.{groups_in, AreTyped}
 use Rattle.program_safety.specs.Parts.{primitive_names}
 use Rattle.emit_size_laws.specs.Small.{NamedProgram}
-use Rattle.told_builds.specs.Compiled.{Compiled, AreModules}
-use Rattle.told_builds.specs.Told.{told}
-use Rattle.placed_builds.specs.Placed.{Piece, ArePlaced}
+use Rattle.build_safety.specs.Compiled.{Compiled, AreModules}
+use Rattle.build_safety.specs.Told.{told}
+use Rattle.build_safety.specs.Placed.{Piece, ArePlaced}
 use Rattle.build_safety.specs.BuildWorlds.{world}
 use Rattle.build_safety.specs.LinkedPieces.{linked_pieces, linked_program}
 

@@ -10,7 +10,7 @@ use Rattle.emit_size_laws.specs.Small.{NamedProgram}
 use Rattle.link.specs.Link.{Output, Links, link}
 use Rattle.link.specs.Programs.{part_of}
 use Rattle.project_proper.specs.Resolved.{source_of}
-use Rattle.told_builds.specs.Compiled.{Compiled, resolved_of, AreModules}
+use Rattle.build_safety.specs.Compiled.{Compiled, resolved_of, AreModules}
 use Rattle.build_safety.specs.BuildWorlds.{world}
 use Rattle.build_safety.specs.LinkedPieces.{linked_program}
 

@@ -12,26 +12,18 @@ use Rattle.emit_size_laws.specs.Small.{NamedProgram}
 use Rattle.link.specs.Link.{Output, Links, link}
 use Rattle.link.specs.Programs.{part_of}
 use Rattle.program_safety.specs.Programs.{IsInput}
-use Rattle.project_build.specs.Outcomes.{Clean, Text}
+use Rattle.project_parts.specs.Outcomes.{Clean, Text}
 use Rattle.project_proper.specs.Resolved.{source_of}
-use Rattle.told_builds.specs.Compiled.{Compiled, resolved_of, AreModules}
+use Rattle.build_safety.specs.Compiled.{Compiled, resolved_of, AreModules}
 use Rattle.build_safety.specs.LinkedPieces.{linked_program}
-use Rattle.kept_ports.specs.Ports.{KeepsPorts}
 use Rattle.build_safety.specs.SoundWorlds.{HasCore}
-use Rattle.build_meaning.specs.Meaning.{IsSourceProgram, Translates}
+use Rattle.build_safety.specs.Meaning.{IsSourceProgram, Translates}
 
 -- With all flags, all inputs at incoming ports of the program, and any fuel, no run ends where no rule applies.
 abbrev pub IsNeverStuck : Program → Type 0
 IsNeverStuck p =
     (flags : Wire) (inputs : List (Name × Wire)) → AllByRecursion (IsInput p) inputs
     → (n : ℕ) → IsRuled (SourceRun p flags inputs n)
-
--- No declaration of the program takes a command or a subscription apart, or builds one as a port does, but as `map` of
--- the modules Platform.Cmd and Platform.Sub does. So do all programs, by the texts of these two modules: no other text
--- can name the constructors of commands and subscriptions, and all that they do beside `map` is to build batches. It is
--- a premise here, since no law tells what these two texts hold.
-abbrev pub LeavesPorts : Program → Type 0
-LeavesPorts p = AllByRecursion KeepsPorts p.declarations
 
 -- ---- the laws
 
@@ -41,13 +33,12 @@ LinkedProgramsAreNeverStuck =
     (cs : List Compiled) (entry : Compiled) (number : ℕ) (o : Output) → AreModules cs → HasCore cs
     → NamedProgram (linked_program cs entry) → slice_get cs number ≡ Some entry
     → link (map part_of (map source_of (resolved_of cs))) number ≡ Links o
-    → LeavesPorts (linked_program cs entry) → IsNeverStuck (linked_program cs entry)
+    → IsNeverStuck (linked_program cs entry)
 
 -- The text that a build gives has a program, which is what the project's modules mean. The text has one tree, which
--- runs as that program does. That program never gets stuck, where it leaves commands and subscriptions as ports made
--- them.
+-- runs as that program does. That program never gets stuck.
 abbrev pub BuildsAreNeverStuck : Type 0
 BuildsAreNeverStuck =
     (tree : Tree) (entry output bytes : List ℕ) → IsUtf8 entry → Clean tree entry output (Text bytes)
     → length bytes < 4294967296
-    → (p : Program) × IsSourceProgram tree entry p × Translates p bytes × (LeavesPorts p → IsNeverStuck p)
+    → (p : Program) × IsSourceProgram tree entry p × Translates p bytes × IsNeverStuck p

@@ -2,16 +2,16 @@
 use Rattle.std.specs.Prelude.{List, ◌∷◌, ◌++◌}
 use Rattle.std.specs.List.{AllByRecursion}
 use Rattle.elm_canon.specs.Tree.{Declaration}
-use Rattle.elm_proper.specs.Proper.{Scope}
-use Rattle.elm_proper.specs.Declarations.{ProperDeclarations}
-use Rattle.canon_mentions.specs.Mentions.{DeclarationsMention}
+use Rattle.elm_canon.specs.Proper.{Scope}
+use Rattle.elm_canon.specs.Declarations.{ProperDeclarations}
+use Rattle.elm_canon.specs.Mentions.{DeclarationsMention}
 use Rattle.typed_values.specs.World.{World}
 use Rattle.typed_values.specs.Simple.{SimpleGroups}
 use Rattle.type_safety.specs.Modules.{groups_in}
 use Rattle.program_safety.specs.Parts.{AreSome}
 use Rattle.told_modules.specs.Resolved.{DeclarationHasFields}
-use Rattle.told_builds.specs.Compiled.{Compiled, home_of, AreModules}
-use Rattle.kept_ports.specs.Ports.{KeepsPorts, IsOfWorld}
+use Rattle.build_safety.specs.Compiled.{Compiled, home_of, AreModules}
+use Rattle.program_safety.specs.Ports.{KeepsPorts, IsOfWorld}
 
 pub record IsPiece (w : World) (c : Compiled) (ds : List Declaration) : Type 0 where
   pub some : AreSome ds c.resolved.whole.declarations

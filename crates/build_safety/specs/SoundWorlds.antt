@@ -5,13 +5,13 @@ use Rattle.elm_canon.specs.Names.{Name}
 use Rattle.elm_canon.specs.Tree.{Payload}
 use Rattle.typed_values.specs.World.{World, Among, IsSound}
 use Rattle.program_safety.specs.Programs.{IsWorker}
-use Rattle.core_facts.specs.Table.{UnionRow, union_rows}
+use Rattle.core_modules.specs.Table.{UnionRow, union_rows}
 use Rattle.core_modules.specs.Library.{core_library}
 use Rattle.module_made.specs.Made.{Value}
-use Rattle.module_walk.specs.Modules.{Module}
-use Rattle.project_build.specs.Modules.{AreCoreModules, parts_of}
-use Rattle.build_laws.specs.Builds.{AreBuilt}
-use Rattle.told_builds.specs.Compiled.{Compiled, home_of, resolved_of, AreModules}
+use Rattle.import_graph.specs.Modules.{Module}
+use Rattle.project_parts.specs.Modules.{AreCoreModules, parts_of}
+use Rattle.project_proper.specs.Builds.{AreBuilt}
+use Rattle.build_safety.specs.Compiled.{Compiled, home_of, resolved_of, AreModules}
 use Rattle.build_safety.specs.BuildWorlds.{world}
 
 -- a module of that name is among these

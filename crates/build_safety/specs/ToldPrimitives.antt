@@ -4,12 +4,12 @@ use Rattle.std.specs.Prelude.{◌≡◌, List, ◌∷◌, ◌++◌, Some}
 use Rattle.elm_canon.specs.declared.reference.Ref.{Ref}
 use Rattle.elm_canon.specs.Tree.{Declaration, Module}
 use Rattle.elm_meaning.specs.Functions.{Primitive}
-use Rattle.core_functions.specs.Cores.{core_of}
+use Rattle.link.specs.Cores.{core_of}
 use Rattle.type_items.specs.Solutions.{Values}
 use Rattle.typed_values.specs.World.{World, Among}
 use Rattle.program_safety.specs.Parts.{IsPrimitiveName, IsEarlier}
-use Rattle.told_builds.specs.Compiled.{Compiled, AreModules}
-use Rattle.told_builds.specs.Told.{told, part_of}
+use Rattle.build_safety.specs.Compiled.{Compiled, AreModules}
+use Rattle.build_safety.specs.Told.{told, part_of}
 
 -- a module defines such a function
 pub record IsCore (m : Module) (x : Ref) (p : Primitive) : Type 0 where

@@ -11,11 +11,11 @@ use Rattle.program_safety.specs.Parts.{AreSome}
 use Rattle.link.specs.Link.{Output, Links, link}
 use Rattle.link.specs.Programs.{part_of}
 use Rattle.project_proper.specs.Resolved.{source_of}
-use Rattle.told_builds.specs.Compiled.{Compiled, resolved_of, AreModules}
-use Rattle.told_builds.specs.Told.{told}
+use Rattle.build_safety.specs.Compiled.{Compiled, resolved_of, AreModules}
+use Rattle.build_safety.specs.Told.{told}
 use Rattle.build_safety.specs.BuildWorlds.{world}
-use Rattle.kept_ports.specs.Ports.{KeepsPorts}
-use Rattle.placed_builds.specs.Placed.{Piece}
+use Rattle.program_safety.specs.Ports.{KeepsPorts}
+use Rattle.build_safety.specs.Placed.{Piece}
 use Rattle.build_safety.specs.LinkedPieces.{linked_program, linked_pieces}
 use Rattle.build_safety.specs.PortWorlds.{Carries, program_world}
 

@@ -2,7 +2,7 @@
 use Rattle.std.specs.Prelude.{◌≡◌, List, ◌∷◌, ◌++◌}
 use Rattle.elm_canon.specs.Tree.{UnionDeclaration}
 use Rattle.typed_values.specs.World.{Among}
-use Rattle.told_builds.specs.Compiled.{Compiled, home_of, AreModules}
+use Rattle.build_safety.specs.Compiled.{Compiled, home_of, AreModules}
 use Rattle.build_safety.specs.BuildWorlds.{constructors, unions_at}
 
 abbrev pub UnionsAreFound : Type 0

@@ -10,7 +10,7 @@ use Rattle.elm_canon.specs.declared.unions.Tag.TheVariants.{Number}
 use Rattle.elm_type.specs.Types.{variables}
 use Rattle.canon_module.specs.Resolve.{Setting, IsModule}
 use Rattle.typed_values.specs.World.{Constructor, Among, IsOneOf, IsNode, IsUnion}
-use Rattle.told_builds.specs.Compiled.{Compiled, AreModules}
+use Rattle.build_safety.specs.Compiled.{Compiled, AreModules}
 use Rattle.build_safety.specs.BuildWorlds.{constructors, unions_at, world}
 
 -- the variables of its fields are parameters, and if it is a node of a dictionary it is as dictionaries need it

@@ -8,3 +8,10 @@ pub mod Rows
 pub mod Filtering
 -- names that are added one after the other
 pub mod Adding
+-- faults in order
+pub mod Ordering
+-- names that stand twice
+pub mod Repeating
+-- one expression, branch, group or function more
+pub mod CanonUsesAdding
+pub mod Linking

@@ -5,3 +5,13 @@ pub mod Imports
 pub mod Filter
 pub mod Env
 pub mod Exposing
+pub mod Naming
+pub mod Expanding
+pub mod Locals
+pub mod Sites
+pub mod Order
+pub mod Types
+pub mod Patterns
+pub mod Repeats
+pub mod Uses
+pub mod Links

@@ -15,8 +15,8 @@ use crate::import::Import;
 use crate::listing;
 use crate::shown::{MakerMeaning, Shown, TypeMeaning};
 use crate::space::{Space, look};
+use elm_base::names::Name;
 use elm_base::units::Units;
-use elm_names::name::Name;
 use std::alloc::{AllocError, Global};
 
 /// An import beside what its module shows.

@@ -7,7 +7,7 @@ ghost use Rattle.canon_env.specs.Imports.{exposing_view, Everything, These};
 ghost use Rattle.canon_env.specs.Filter.{Filters, FiltersMore, filter_value, filter_type, filter_makers};
 
 use crate::import::{Exposed, Exposing};
-use elm_names::name::Name;
+use elm_base::names::Name;
 use indexmap::IndexSet;
 use std::alloc::{AllocError, Global};
 

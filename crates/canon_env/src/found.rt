@@ -1,6 +1,6 @@
 //! What a name means.
 
-use elm_names::name::Name;
+use elm_base::names::Name;
 
 /// A thing of a module.
 #[derive(Drop)]

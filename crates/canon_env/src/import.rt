@@ -6,9 +6,9 @@ ghost use Rattle.elm_tree.specs.View as tree;
 ghost use Rattle.elm_tree.specs.Turns.{tokens_view};
 ghost use Rattle.canon_env.specs.Imports as spec;
 
+use elm_base::names::Name;
 use elm_base::units;
 use elm_lexer::token::{Kind, Token};
-use elm_names::name::Name;
 use elm_tree::tree;
 use elm_tree::tree::Word;
 use elm_tree::turns::text_at;

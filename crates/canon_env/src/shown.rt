@@ -1,8 +1,8 @@
 //! What a module shows to those that import it, and what its names mean.
 
+use elm_base::names::Name;
 use elm_canon::tree::{AliasDeclaration, UnionDeclaration};
 use elm_canon::unions::{Alternative, Union};
-use elm_names::name::Name;
 use std::alloc::Global;
 use std::sync::Arc;
 

@@ -6,7 +6,7 @@ ghost use Rattle.canon_env.specs.Found.{Nothing, own_or};
 ghost use Rattle.canon_env.specs.Space.{entry_view, found_view, named_at, found_at, added, added_all};
 
 use crate::found::{Entry, Meant, Named};
-use elm_names::name::Name;
+use elm_base::names::Name;
 use indexmap::IndexMap;
 use std::alloc::{AllocError, Global};
 

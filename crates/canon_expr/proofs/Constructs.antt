@@ -9,15 +9,15 @@ use Rattle.elm_tree.specs.declared.tree.Word as program
 use Rattle.elm_canon.specs.Tree as canon
 use Rattle.elm_canon.specs.declared.reference.Ref.TheVariants.{Local}
 use Rattle.canon_env.specs.Imports.{name_of}
-use Rattle.canon_sites.specs.Naming.{World}
-use Rattle.canon_sites.specs.Locals.{Locals, with_names}
-use Rattle.canon_sites.specs.Sites.{FieldsTogether}
-use Rattle.canon_sites.specs.Patterns.{words_of_all, pattern_of, patterns_of}
-use Rattle.canon_calls.specs.Callees.{Callee, plain, with_arguments, chain_of}
-use Rattle.canon_blocks.specs.Binding.{bound_in, is_function}
-use Rattle.canon_blocks.specs.Blocks.{Made, MadeParts, made_of, title_of}
-use Rattle.canon_leaves.specs.Exprs.{at, one, callee, meant, meant_each, meant_parts, callees, meant_branches, accessed}
-use Rattle.canon_leaves.specs.Exprs.{block_groups, made_in, made_by, part_words, expr_sites, part_sites}
+use Rattle.canon_env.specs.Naming.{World}
+use Rattle.canon_env.specs.Locals.{Locals, with_names}
+use Rattle.canon_env.specs.Sites.{FieldsTogether}
+use Rattle.canon_env.specs.Patterns.{words_of_all, pattern_of, patterns_of}
+use Rattle.canon_expr.specs.Callees.{Callee, plain, with_arguments, chain_of}
+use Rattle.canon_expr.specs.Binding.{bound_in, is_function}
+use Rattle.canon_expr.specs.Blocks.{Made, MadeParts, made_of, title_of}
+use Rattle.canon_expr.specs.Exprs.{at, one, callee, meant, meant_each, meant_parts, callees, meant_branches, accessed}
+use Rattle.canon_expr.specs.Exprs.{block_groups, made_in, made_by, part_words, expr_sites, part_sites}
 use Rattle.canon_expr.specs.Records.{base_values, base_sites, record_op}
 
 module _ (w : World) (locals : Locals) where

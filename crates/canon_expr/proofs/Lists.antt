@@ -7,16 +7,16 @@ use Rattle.elm_tree.specs.Tree.{Expr, Word, Definition, exprs_of, parts_of, bran
 use Rattle.elm_tree.specs.View.{WordExpr, BranchView}
 use Rattle.elm_canon.specs.Tree as canon
 use Rattle.elm_canon.specs.Tree.{Annotation}
-use Rattle.canon_sites.specs.Naming.{World}
-use Rattle.canon_sites.specs.Locals.{Locals, with_names}
-use Rattle.canon_sites.specs.Sites.{Site, OperatorUse}
-use Rattle.canon_sites.specs.Patterns.{pattern_of, pattern_sites, words_of}
-use Rattle.canon_calls.specs.Callees.{Callee}
-use Rattle.canon_blocks.specs.Binding.{uses_among}
-use Rattle.canon_blocks.specs.Blocks.{joined_sites}
-use Rattle.canon_leaves.specs.Exprs.{expr_sites, exprs_sites, part_sites, chain_sites, branch_sites, definitions_sites}
-use Rattle.canon_leaves.specs.Exprs.{definition_sites, callee, meant, meant_each, meant_parts, callees, meant_branches}
-use Rattle.canon_leaves.specs.Exprs.{made_in, made_by, annotation_of}
+use Rattle.canon_env.specs.Naming.{World}
+use Rattle.canon_env.specs.Locals.{Locals, with_names}
+use Rattle.canon_env.specs.Sites.{Site, OperatorUse}
+use Rattle.canon_env.specs.Patterns.{pattern_of, pattern_sites, words_of}
+use Rattle.canon_expr.specs.Callees.{Callee}
+use Rattle.canon_expr.specs.Binding.{uses_among}
+use Rattle.canon_expr.specs.Blocks.{joined_sites}
+use Rattle.canon_expr.specs.Exprs.{expr_sites, exprs_sites, part_sites, chain_sites, branch_sites, definitions_sites}
+use Rattle.canon_expr.specs.Exprs.{definition_sites, callee, meant, meant_each, meant_parts, callees, meant_branches}
+use Rattle.canon_expr.specs.Exprs.{made_in, made_by, annotation_of}
 
 pub joined_next : (each : List (List Site)) (sites : List Site) →
     joined_sites (each ++ sites ∷ []) ≡ joined_sites each ++ sites

@@ -2,15 +2,15 @@
 use Rattle.std.proofs.Common.{◌≡◌, List, ◌++◌, ap, ◌∙◌, subst, append_assoc}
 use Rattle.canon_env.specs.declared.env.World as program
 use Rattle.elm_tree.specs.Tree.{Word}
-use Rattle.canon_sites.specs.Naming.{World}
-use Rattle.canon_sites.specs.Locals.{Locals, with_names}
-use Rattle.canon_sites.specs.Sites.{Site}
-use Rattle.canon_scope.specs.Logs.{Grows}
-use Rattle.canon_scope.specs.Scope.{locals_of}
-use Rattle.canon_scope.specs.declared.log.Log.{Log}
-use Rattle.canon_scope.specs.declared.scope.Scope.{Scope}
-use Rattle.canon_scope.proofs.Growing.{grows_more}
-use Rattle.canon_pattern.proofs.Meaning.{grows_at}
+use Rattle.canon_env.specs.Naming.{World}
+use Rattle.canon_env.specs.Locals.{Locals, with_names}
+use Rattle.canon_env.specs.Sites.{Site}
+use Rattle.canon_expr.specs.Logs.{Grows}
+use Rattle.canon_expr.specs.Scope.{locals_of}
+use Rattle.canon_expr.specs.declared.log.Log.{Log}
+use Rattle.canon_expr.specs.declared.scope.Scope.{Scope}
+use Rattle.canon_expr.proofs.Growing.{grows_more}
+use Rattle.canon_expr.proofs.Meaning.{grows_at}
 use Rattle.canon_expr.specs.Walking.{StandsIn}
 
 pub stays : {world : program.World} {old new : Scope} {w : World} {locals : Locals} → StandsIn world old w locals →

@@ -5,10 +5,10 @@ use Rattle.std.proofs.lemmas.List.Elements.{filter_map-append}
 use Rattle.elm_tree.specs.Tree as tree
 use Rattle.elm_tree.specs.Tree.{Word, Long, TypeTree, TypeTrees}
 use Rattle.elm_canon.specs.Tree.{Annotations}
-use Rattle.canon_sites.specs.Naming.{World}
-use Rattle.canon_sites.specs.Sites.{Site, TypeUse, FieldsTogether}
-use Rattle.canon_sites.specs.Types.{types_of, field_words, type_sites, type_sites_in, field_type_sites}
-use Rattle.canon_scope.specs.Logs.{used_place}
+use Rattle.canon_env.specs.Naming.{World}
+use Rattle.canon_env.specs.Sites.{Site, TypeUse, FieldsTogether}
+use Rattle.canon_env.specs.Types.{types_of, field_words, type_sites, type_sites_in, field_type_sites}
+use Rattle.canon_expr.specs.Logs.{used_place}
 
 type_use : (w : World) (x : Long) (ts : Annotations) → used_place w (TypeUse x ts) ≡ None
 unfolding used_place

@@ -1,2 +1,17 @@
 pub mod Walking
 pub mod Records
+pub mod Operators
+pub mod Callees
+pub mod Calls
+pub mod Chains
+pub mod Examples
+pub mod Parts
+pub mod Scope
+pub mod Logs
+pub mod Longs
+pub mod Literals
+pub mod Matches
+pub mod Binding
+pub mod Blocks
+pub mod Kept
+pub mod Exprs

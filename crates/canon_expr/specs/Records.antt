@@ -3,10 +3,10 @@ use Rattle.std.specs.Prelude.{List, [], ◌∷◌, Option, Some, None}
 use Rattle.elm_tree.specs.Tree.{Word}
 use Rattle.elm_canon.specs.Names.{Name}
 use Rattle.elm_canon.specs.Tree.{Expr, Op, RecordOf, Update}
-use Rattle.canon_sites.specs.Naming.{World}
-use Rattle.canon_sites.specs.Locals.{Locals}
-use Rattle.canon_sites.specs.Sites.{Site, ValueUse}
-use Rattle.canon_leaves.specs.Exprs.{base_value, long_word}
+use Rattle.canon_env.specs.Naming.{World}
+use Rattle.canon_env.specs.Locals.{Locals}
+use Rattle.canon_env.specs.Sites.{Site, ValueUse}
+use Rattle.canon_expr.specs.Exprs.{base_value, long_word}
 
 -- the value of the record that is changed, if there is one
 abbrev pub base_values : World → Locals → Option Word → List Expr

@@ -5,24 +5,25 @@ ghost use Rattle.elm_tree.specs.Tree as tree;
 ghost use Rattle.elm_tree.specs.View as tree_view;
 ghost use Rattle.elm_tree.specs.Turns.{tokens_view};
 ghost use Rattle.elm_canon.specs.View.{pattern_view, patterns_view, annotation_view};
-ghost use Rattle.canon_sites.specs.Naming as naming;
-ghost use Rattle.canon_sites.specs.Naming.{IsWorld};
-ghost use Rattle.canon_sites.specs.Locals.{with_names};
-ghost use Rattle.canon_sites.specs.Patterns as spec;
-ghost use Rattle.canon_sites.specs.Types.{type_of, type_sites};
-ghost use Rattle.canon_scope.specs.Scope.{locals_of, without};
-ghost use Rattle.canon_scope.specs.Logs.{Grows};
-ghost use Rattle.canon_pattern.specs.Literals.{AreLiterals};
-ghost use Rattle.canon_blocks.specs.Binding.{bound_in};
+ghost use Rattle.canon_env.specs.Naming as naming;
+ghost use Rattle.canon_env.specs.Naming.{IsWorld};
+ghost use Rattle.canon_env.specs.Locals.{with_names};
+ghost use Rattle.canon_env.specs.Patterns as spec;
+ghost use Rattle.canon_env.specs.Types.{type_of, type_sites};
+ghost use Rattle.canon_expr.specs.Scope.{locals_of, without};
+ghost use Rattle.canon_expr.specs.Logs.{Grows};
+ghost use Rattle.canon_expr.specs.Literals.{AreLiterals};
+ghost use Rattle.canon_expr.specs.Binding.{bound_in};
 
-use canon_annotation::annotation::annotation;
-use canon_blocks::words::bound_in;
+use crate::bindings::note_bindings;
+use crate::bound_words::bound_in;
+use crate::items::set;
+use crate::log::Log;
+use crate::pattern::{pattern, patterns};
+use crate::scope::{Entered, Scope};
+use crate::words::{words_of, words_of_all};
 use canon_env::env::World;
-use canon_pattern::pattern::{pattern, patterns};
-use canon_pattern::words::{words_of, words_of_all};
-use canon_scope::bindings::note_bindings;
-use canon_scope::log::Log;
-use canon_scope::scope::{Entered, Scope};
+use canon_type::annotation::annotation;
 use elm_canon::tree::{Annotation, Pattern};
 use elm_lexer::token::Token;
 use elm_tree::tree;
@@ -144,6 +145,7 @@ pub(crate) fn annotate(
     ensures log { OnOk result ((w : naming.World) → IsWorld world.now w → Grows w log.old log.new
         (type_sites w (tree_view.type_view (tokens_view tokens.now) written.now))) }
 {
-    *before = Some(annotation(alloc, tokens, world, written, &mut log.findings)?);
+    let meant = annotation(alloc, tokens, world, written, &mut log.findings)?;
+    set(before, Some(meant));
     Ok(())
 }

@@ -10,50 +10,33 @@ ghost use Rattle.elm_tree.specs.Turns.{tokens_view};
 ghost use Rattle.elm_canon.specs.declared.reference.Ref.TheVariants.{Local};
 ghost use Rattle.elm_canon.specs.View.{expr_view, branch_view, pattern_view, patterns_view, annotation_view};
 ghost use Rattle.canon_env.specs.Imports.{name_of};
-ghost use Rattle.canon_calls.specs.Calls.{callee_view};
-ghost use Rattle.canon_calls.specs.Callees.{finished, with_arguments};
-ghost use Rattle.canon_calls.specs.Chains.{operand_view};
-ghost use Rattle.canon_blocks.specs.Binding.{is_function};
-ghost use Rattle.canon_blocks.specs.Blocks as blocks;
-ghost use Rattle.canon_blocks.specs.Blocks.{title_of};
-ghost use Rattle.canon_blocks.specs.Kept.{made_view};
+ghost use Rattle.canon_expr.specs.Calls.{callee_view};
+ghost use Rattle.canon_expr.specs.Callees.{with_arguments};
+ghost use Rattle.canon_expr.specs.Chains.{operand_view};
+ghost use Rattle.canon_expr.specs.Binding.{is_function};
+ghost use Rattle.canon_expr.specs.Blocks as blocks;
+ghost use Rattle.canon_expr.specs.Blocks.{title_of};
+ghost use Rattle.canon_expr.specs.Kept.{made_view};
 
-use canon_blocks::made::Made;
-use canon_blocks::titles::made_of;
-use canon_calls::callee::Callee;
-use canon_calls::chain::Operand;
+use crate::callee::Callee;
+use crate::chain::Operand;
+use crate::items::{boxed, put, set};
+use crate::made::Made;
+use crate::titles::made_named;
+use canon_env::import::word_name;
+use elm_canon::reference::Ref;
 use elm_canon::tree::{Annotation, Branch, Expr, Pattern};
 use elm_lexer::token::Token;
 use elm_tree::tree;
 use elm_tree::tree::Word;
 use std::alloc::{AllocError, Global};
 
-/// What is called, in a box.
-pub(crate) fn boxed(alloc: Global, callee: Callee) -> Result<Box<Callee>, AllocError>
-    ensures { IfOk result (λ b. b.value ≡ callee) }
-{
-    Ok(Box::new(alloc, callee)?)
-}
-
-/// What a call means once it has all of its arguments, in a box.
-pub(crate) fn finished(alloc: Global, callee: Callee) -> Result<Box<Expr>, AllocError>
-    ensures { IfOk result (λ e. expr_view e.value ≡ finished (callee_view callee)) }
-{
-    callee.finish(alloc)
-}
-
-/// Adds what a call means once it has all of its arguments.
-pub(crate) fn push_finished(
-    alloc: Global,
-    meanings: &mut Vec<Expr>,
-    callee: Callee,
-) -> Result<(), AllocError>
+/// Adds what an expression means.
+pub(crate) fn push_meaning(meanings: &mut Vec<Expr>, meaning: Box<Expr>) -> Result<(), AllocError>
     ensures { OnOk result (map expr_view meanings.new.items
-        ≡ map expr_view meanings.old.items ++ finished (callee_view callee) ∷ []) }
+        ≡ map expr_view meanings.old.items ++ expr_view meaning.value ∷ []) }
 {
-    let meaning = callee.finish(alloc)?;
-    meanings.push(Box::into_inner(meaning))?;
-    Ok(())
+    put(meanings, Box::into_inner(meaning))
 }
 
 /// A function with its arguments.
@@ -75,9 +58,8 @@ pub(crate) fn push_operand(
     ensures { OnOk result ((tokens : List lexed.Token) → map (operand_view tokens) operands.new.items
         ≡ map (operand_view tokens) operands.old.items ++ (word_view tokens operator, callee_view callee) ∷ []) }
 {
-    let callee = Box::new(alloc, callee)?;
-    operands.push(Operand { operator, callee })?;
-    Ok(())
+    let callee = boxed(alloc, callee)?;
+    put(operands, Operand { operator, callee })
 }
 
 /// Adds a branch.
@@ -91,15 +73,14 @@ pub(crate) fn push_branch(
 {
     let pattern = Box::into_inner(pattern);
     let body = Box::into_inner(body);
-    branches.push(Branch { pattern, body })?;
-    Ok(())
+    put(branches, Branch { pattern, body })
 }
 
 /// No annotation stands before the next definition.
 pub(crate) fn forget(before: &mut Option<Annotation>)
     ensures { before.new ≡ None }
 {
-    *before = None;
+    set(before, None);
 }
 
 /// What the definition of a name means, with the annotation that stands before it. None stands before the next one.
@@ -121,17 +102,19 @@ pub(crate) fn defined_by(
         (patterns_view parameters.items) (expr_view value.value)) }
     ensures before { OnOk result (before.new ≡ None) }
 {
+    let local = word_name(alloc, tokens, name)?;
+    let before = before.take();
     let value = Box::into_inner(value);
-    made_of(
-        alloc,
+    Ok(made_named(
         tokens,
+        Ref::Local(local),
         name,
-        before.take(),
+        before,
         written,
         parameters,
         body,
         value,
-    )
+    ))
 }
 
 /// What a pattern with what it takes apart means.

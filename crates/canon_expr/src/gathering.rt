@@ -8,20 +8,21 @@ ghost use Rattle.elm_tree.specs.View.{definition_view};
 ghost use Rattle.elm_tree.specs.Turns.{tokens_view};
 ghost use Rattle.elm_canon.specs.Tree as canon;
 ghost use Rattle.elm_canon.specs.View.{group_view};
-ghost use Rattle.canon_sites.specs.Naming as naming;
-ghost use Rattle.canon_sites.specs.Sites.{Site};
-ghost use Rattle.canon_scope.specs.Logs.{Grows};
-ghost use Rattle.canon_scope.specs.declared.log.Log as logs;
-ghost use Rattle.canon_blocks.specs.Binding.{bound_by_each, used_definition, defined_in};
-ghost use Rattle.canon_blocks.specs.Blocks.{groups_in, reaching_sites};
-ghost use Rattle.canon_blocks.specs.Kept.{Binds, made_view};
+ghost use Rattle.canon_env.specs.Naming as naming;
+ghost use Rattle.canon_env.specs.Sites.{Site};
+ghost use Rattle.canon_expr.specs.Logs.{Grows};
+ghost use Rattle.canon_expr.specs.declared.log.Log as logs;
+ghost use Rattle.canon_expr.specs.Binding.{bound_by_each, used_definition, defined_in};
+ghost use Rattle.canon_expr.specs.Blocks.{groups_in, reaching_sites};
+ghost use Rattle.canon_expr.specs.Kept.{Binds, made_view};
 
-use canon_blocks::binders::Binders;
-use canon_blocks::groups::groups_of;
-use canon_blocks::made::Made;
-use canon_blocks::order::Order;
-use canon_blocks::reaching::note_reaching;
-use canon_scope::log::Log;
+use crate::binders::Binders;
+use crate::groups::groups_of;
+use crate::items::put;
+use crate::log::Log;
+use crate::made::Made;
+use crate::order::Order;
+use crate::reaching::note_reaching;
 use elm_canon::tree::{Annotation, Group};
 use elm_lexer::token::Token;
 use elm_tree::tree::Definition;
@@ -44,14 +45,6 @@ pub(crate) struct Gathered {
 struct Ended {
     uses: Vec<Vec<u32>>,
     made: Vec<Made>,
-}
-
-/// Adds what a definition means.
-fn push_made(all: &mut Vec<Made>, made: Made) -> Result<(), AllocError>
-    ensures { OnOk result (all.new.items ≡ all.old.items ++ made ∷ []) }
-{
-    all.push(made)?;
-    Ok(())
 }
 
 impl Gathered {
@@ -95,8 +88,9 @@ impl Gathered {
         ensures binders { OnOk result (self.new.binders ≡ self.old.binders) }
         ensures before { OnOk result (self.new.before ≡ self.old.before) }
     {
-        push_made(&mut self.made, made)?;
-        self.uses.push(self.binders.used_since(alloc, log, start)?)?;
+        put(&mut self.made, made)?;
+        let used = self.binders.used_since(alloc, log, start)?;
+        put(&mut self.uses, used)?;
         Ok(())
     }
 

@@ -8,30 +8,31 @@ ghost use Rattle.elm_tree.specs.Turns.{tokens_view};
 ghost use Rattle.elm_canon.specs.Tree as canon;
 ghost use Rattle.elm_canon.specs.View.{expr_view, op_view};
 ghost use Rattle.canon_env.specs.Imports.{name_of};
-ghost use Rattle.canon_sites.specs.Naming as naming;
-ghost use Rattle.canon_sites.specs.Naming.{IsWorld};
-ghost use Rattle.canon_sites.specs.Sites.{FieldsTogether};
-ghost use Rattle.canon_scope.specs.Scope.{locals_of};
-ghost use Rattle.canon_scope.specs.Logs.{Grows};
-ghost use Rattle.canon_calls.specs.Calls.{callee_view};
-ghost use Rattle.canon_leaves.specs.Exprs.{at, part_words};
+ghost use Rattle.canon_env.specs.Naming as naming;
+ghost use Rattle.canon_env.specs.Naming.{IsWorld};
+ghost use Rattle.canon_env.specs.Sites.{FieldsTogether};
+ghost use Rattle.canon_expr.specs.Scope.{locals_of};
+ghost use Rattle.canon_expr.specs.Logs.{Grows};
+ghost use Rattle.canon_expr.specs.Calls.{callee_view};
+ghost use Rattle.canon_expr.specs.Exprs.{at, part_words};
 ghost use Rattle.canon_expr.specs.Records as spec;
 
-use canon_calls::callee::Callee;
+use crate::callee::Callee;
+use crate::fields::{names_of, note_fields, part_words};
+use crate::forms::strict_at;
+use crate::items::one_item;
+use crate::log::Log;
+use crate::scope::Scope;
+use crate::uses::value_at;
 use canon_env::env::World;
-use canon_leaves::fields::{names_of, note_fields, part_words};
-use canon_leaves::forms::strict_at;
-use canon_leaves::uses::value_at;
-use canon_scope::log::Log;
-use canon_scope::scope::Scope;
+use elm_base::names::Name;
 use elm_canon::tree::{Expr, Op};
 use elm_lexer::token::Token;
-use elm_names::name::Name;
 use elm_tree::tree::{Part, Word};
 use std::alloc::{AllocError, Global};
 
 /// The value of the record that is changed, if there is one. A fault of its name is noted.
-#[tactic(auto, using(canon_scope::proofs::Growing::grows_none))]
+#[tactic(auto, using(crate::proofs::Growing::grows_none))]
 pub(crate) fn base_values(
     alloc: Global,
     tokens: &[Token<'_>],
@@ -49,7 +50,7 @@ pub(crate) fn base_values(
         None => Ok(Vec::new(alloc)),
         Some(word) => {
             let value = value_at(alloc, tokens, world, scope, log, word)?;
-            Ok(vec![in alloc; value]?)
+            one_item(alloc, value)
         }
     }
 }

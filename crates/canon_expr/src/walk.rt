@@ -8,38 +8,38 @@ ghost use Rattle.elm_tree.specs.View as tree_view;
 ghost use Rattle.elm_tree.specs.Turns.{tokens_view};
 ghost use Rattle.elm_canon.specs.Tree as canon;
 ghost use Rattle.elm_canon.specs.View.{expr_view, branch_view, group_view, annotation_view};
-ghost use Rattle.canon_sites.specs.Naming as naming;
-ghost use Rattle.canon_sites.specs.Locals.{Locals, with_names};
-ghost use Rattle.canon_scope.specs.Scope.{locals_of};
-ghost use Rattle.canon_scope.specs.Logs.{Grows};
-ghost use Rattle.canon_pattern.specs.Literals.{AreLiterals};
-ghost use Rattle.canon_calls.specs.Calls.{callee_view};
-ghost use Rattle.canon_calls.specs.Chains.{operand_view};
-ghost use Rattle.canon_blocks.specs.Binding.{uses_among, bound_by_each, defined_in};
-ghost use Rattle.canon_blocks.specs.Blocks.{joined_sites, reaching_sites};
-ghost use Rattle.canon_blocks.specs.Kept.{made_view};
-ghost use Rattle.canon_leaves.specs.Exprs as spec;
+ghost use Rattle.canon_env.specs.Naming as naming;
+ghost use Rattle.canon_env.specs.Locals.{Locals, with_names};
+ghost use Rattle.canon_expr.specs.Scope.{locals_of};
+ghost use Rattle.canon_expr.specs.Logs.{Grows};
+ghost use Rattle.canon_expr.specs.Literals.{AreLiterals};
+ghost use Rattle.canon_expr.specs.Calls.{callee_view};
+ghost use Rattle.canon_expr.specs.Chains.{operand_view};
+ghost use Rattle.canon_expr.specs.Binding.{uses_among, bound_by_each, defined_in};
+ghost use Rattle.canon_expr.specs.Blocks.{joined_sites, reaching_sites};
+ghost use Rattle.canon_expr.specs.Kept.{made_view};
+ghost use Rattle.canon_expr.specs.Exprs as spec;
 ghost use Rattle.canon_expr.specs.Walking.{StandsIn};
 
 use crate::binding::{
     BoundPattern, Parameters, annotate, bind_parameters, bind_pattern, boxed_pattern, enter_block,
 };
 use crate::boxes::{
-    applied, boxed, defined_by, finished, forget, parts_of, push_branch, push_finished,
-    push_operand,
+    applied, defined_by, forget, parts_of, push_branch, push_meaning, push_operand,
 };
+use crate::callee::Callee;
+use crate::chain::{Operand, chain};
+use crate::fields::accessed;
+use crate::forms::{case_of, conditional, lambda, let_in, negated, strict_at};
 use crate::gathering::Gathered;
+use crate::items::boxed;
+use crate::leaves::one_word;
+use crate::log::Log;
+use crate::made::Made;
 use crate::records::{base_values, record_of};
-use canon_blocks::made::Made;
-use canon_calls::callee::Callee;
-use canon_calls::chain::{Operand, chain};
+use crate::scope::Scope;
+use crate::uses::note_operator;
 use canon_env::env::World;
-use canon_leaves::fields::accessed;
-use canon_leaves::forms::{case_of, conditional, lambda, let_in, negated, strict_at};
-use canon_leaves::leaves::one_word;
-use canon_leaves::uses::note_operator;
-use canon_scope::log::Log;
-use canon_scope::scope::Scope;
 use elm_canon::tree::{Annotation, Branch, Expr, Group, Op};
 use elm_lexer::token::Token;
 use elm_tree::tree;
@@ -151,7 +151,7 @@ pub fn meant(
     ensures scope { OnOk result (locals_of scope.new ≡ locals_of scope.old) }
 {
     let callee = callee(alloc, tokens, world, scope, log, written)?;
-    finished(alloc, callee)
+    callee.finish(alloc)
 }
 
 /// What the expression `written` means where the names of the words `words` are local too. Otherwise as `meant`.
@@ -203,8 +203,8 @@ fn meant_each(
 {
     let mut meanings = Vec::new(alloc);
     for one in written {
-        let callee = callee(alloc, tokens, world, scope, log, one)?;
-        push_finished(alloc, &mut meanings, callee)?;
+        let meaning = meant(alloc, tokens, world, scope, log, one)?;
+        push_meaning(&mut meanings, meaning)?;
     }
     Ok(meanings)
 }
@@ -232,8 +232,8 @@ fn meant_parts(
 {
     let mut meanings = before;
     for field in fields {
-        let callee = callee(alloc, tokens, world, scope, log, &field.value)?;
-        push_finished(alloc, &mut meanings, callee)?;
+        let meaning = meant(alloc, tokens, world, scope, log, &field.value)?;
+        push_meaning(&mut meanings, meaning)?;
     }
     Ok(meanings)
 }

@@ -12,7 +12,7 @@ use Rattle.elm_canon.specs.Names.{Name}
 use Rattle.elm_canon.specs.Tree.{Given, RecordMaker}
 use Rattle.elm_canon.specs.declared.reference.Ref.TheVariants.{Top}
 use Rattle.canon_env.specs.Imports.{name_of}
-use Rattle.canon_sites.specs.Types.{field_words}
+use Rattle.canon_env.specs.Types.{field_words}
 use Rattle.canon_module.specs.Resolve.{record_maker}
 
 named_fields : (tokens : List Token) (fs : List FieldType) →

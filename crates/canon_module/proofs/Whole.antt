@@ -6,10 +6,10 @@ use Rattle.elm_canon.specs.Tree.{Module}
 use Rattle.canon_env.specs.Imports.{name_of}
 use Rattle.canon_env.specs.Env.{imported_rows}
 use Rattle.canon_env.specs.Shown.{Shown}
-use Rattle.canon_sites.specs.Naming.{World}
-use Rattle.canon_names.specs.Names.{Names, names_in}
-use Rattle.declared_types.specs.Types.{module_world, AreDeclared, AreAll}
-use Rattle.canon_values.specs.Items.{value_groups}
+use Rattle.canon_env.specs.Naming.{World}
+use Rattle.canon_module.specs.Names.{Names, names_in}
+use Rattle.canon_type.specs.DeclaredTypes.{module_world, AreDeclared, AreAll}
+use Rattle.canon_module.specs.Items.{value_groups}
 use Rattle.canon_module.specs.Resolve.{Setting, ports_in, makers_in, declared_by, IsModule}
 
 -- all that the module declares, by the names of its values

@@ -1,3 +1,12 @@
 pub mod Resolve
 pub mod Kept
 pub mod Offers
+pub mod Names
+pub mod Faults
+pub mod View
+pub mod TopUses
+pub mod TopUsesKept
+pub mod Items
+pub mod CanonValuesFaults
+pub mod CanonValuesKept
+pub mod Ports

@@ -14,15 +14,15 @@ use Rattle.canon_env.specs.Imports.{name_of}
 use Rattle.canon_env.specs.Exposing.{import_faults}
 use Rattle.canon_env.specs.Exposing as exposing_part
 use Rattle.canon_env.specs.declared.finding.Finding.{Finding}
-use Rattle.canon_sites.specs.Naming.{World}
-use Rattle.canon_sites.specs.Types.{field_words}
-use Rattle.canon_declared.specs.Unions.{alternatives_of}
-use Rattle.canon_names.specs.Names.{names_in}
-use Rattle.canon_names.specs.Faults.{name_faults}
-use Rattle.canon_values.specs.Ports.{port_of}
-use Rattle.declared_types.specs.Types.{module_world, AreDeclared, declared_faults}
-use Rattle.canon_values.specs.Items.{value_groups}
-use Rattle.canon_values.specs.Faults.{value_faults}
+use Rattle.canon_env.specs.Naming.{World}
+use Rattle.canon_env.specs.Types.{field_words}
+use Rattle.canon_type.specs.Unions.{alternatives_of}
+use Rattle.canon_module.specs.Names.{names_in}
+use Rattle.canon_module.specs.Faults.{name_faults}
+use Rattle.canon_module.specs.Ports.{port_of}
+use Rattle.canon_type.specs.DeclaredTypes.{module_world, AreDeclared, declared_faults}
+use Rattle.canon_module.specs.Items.{value_groups}
+use Rattle.canon_module.specs.CanonValuesFaults.{value_faults}
 use Rattle.canon_module.specs.Offers.{exposed_by, shown_by}
 
 -- what a module is resolved against: its name by its path, the types that it has without a text, its imports, those

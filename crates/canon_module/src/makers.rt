@@ -7,17 +7,17 @@ ghost use Rattle.elm_canon.specs.Tree as canon;
 ghost use Rattle.elm_canon.specs.View.{declaration_view, known_view};
 ghost use Rattle.elm_canon.specs.declared.reference.Ref.TheVariants.{Top};
 ghost use Rattle.canon_env.specs.Imports.{name_of};
-ghost use Rattle.canon_declared.specs.Unions.{alternatives_of};
+ghost use Rattle.canon_type.specs.Unions.{alternatives_of};
 ghost use Rattle.canon_module.specs.Resolve.{maker_of, record_maker, makers_in};
 
-use canon_declared::constructors::alternatives_of;
 use canon_env::import::word_name;
+use canon_type::constructors::alternatives_of;
+use elm_base::names::Name;
 use elm_canon::reference::Ref;
 use elm_canon::tree;
 use elm_canon::tree::Known;
 use elm_canon::unions::Alternative;
 use elm_lexer::token::Token;
-use elm_names::name::Name;
 use elm_tree::tree::{Constructor, Declaration, FieldType, TypeTree, Word};
 use std::alloc::{AllocError, Global};
 

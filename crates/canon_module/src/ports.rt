@@ -4,12 +4,12 @@ ghost use Rattle.std.specs.Prelude.{◌≡◌, ◌++◌, ◌∷◌, [], map, fla
 ghost use Rattle.elm_tree.specs.View as tree_view;
 ghost use Rattle.elm_tree.specs.Turns.{tokens_view};
 ghost use Rattle.elm_canon.specs.View.{port_declaration_view};
-ghost use Rattle.canon_sites.specs.Naming as naming;
-ghost use Rattle.canon_sites.specs.Naming.{IsWorld};
+ghost use Rattle.canon_env.specs.Naming as naming;
+ghost use Rattle.canon_env.specs.Naming.{IsWorld};
 ghost use Rattle.canon_module.specs.Resolve.{ports_in};
 
+use crate::port::{Port, resolve};
 use canon_env::env::World;
-use canon_values::port::{Port, resolve};
 use elm_canon::tree::PortDeclaration;
 use elm_lexer::token::Token;
 use elm_tree::tree::Declaration;

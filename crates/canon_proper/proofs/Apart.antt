@@ -2,11 +2,11 @@
 use Rattle.std.proofs.Common.{◌≡◌, List, [], ◌∷◌, ◌++◌, Bool, true, false, refl, sym, ap, ◌∙◌, subst, ◌⊎◌}
 use Rattle.std.specs.Prelude.{◌||◌, if◌then◌else◌}
 use Rattle.std.proofs.lemmas.Bool.{false≢true}
-use Rattle.group_order.proofs.Ordering.{not_true}
-use Rattle.binding_groups.proofs.Reaching.{or_cases}
+use Rattle.decl_groups.proofs.Ordering.{not_true}
+use Rattle.decl_groups.proofs.Reaching.{or_cases}
 use Rattle.elm_canon.specs.Names.{same_ref}
 use Rattle.elm_canon.specs.declared.reference.Ref.{Ref}
-use Rattle.elm_proper.specs.Proper.{Scope, among, with_all, AreFresh}
+use Rattle.elm_canon.specs.Proper.{Scope, among, with_all, AreFresh}
 use Rattle.canon_proper.proofs.Scopes.{among-append, among-with_all, in_first, in_later, one_ref, NoneIn, fresh_apart}
 use Rattle.canon_proper.proofs.Scopes.{or_right}
 

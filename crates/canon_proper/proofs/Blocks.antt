@@ -11,22 +11,22 @@ use Rattle.std.proofs.lemmas.List.{length-map}
 use Rattle.std.proofs.lemmas.List.Elements.{All-contains}
 use Rattle.decl_groups.specs.Groups.{list_at, Uses, IsOrder, all_placed, next}
 use Rattle.decl_groups.proofs.Basics.{no_member, first_member, later_member, member_cases}
-use Rattle.binding_groups.specs.InOrder.{is_in, uses_itself, AreWithin}
-use Rattle.binding_groups.proofs.Reaching.{both, and_both, is_use, use_is}
-use Rattle.group_order.proofs.Ordering.{order_is, not_true}
+use Rattle.decl_groups.specs.InOrder.{is_in, uses_itself, AreWithin}
+use Rattle.decl_groups.proofs.Reaching.{both, and_both, is_use, use_is}
+use Rattle.decl_groups.proofs.Ordering.{order_is, not_true}
 use Rattle.elm_tree.specs.Tree.{Pos, Word}
 use Rattle.elm_canon.specs.declared.reference.Ref.{Ref}
 use Rattle.elm_canon.specs.declared.reference.Ref.TheVariants.{Local, Top}
 use Rattle.elm_canon.specs.Tree.{Group, groups_of}
 use Rattle.canon_env.specs.Imports.{name_of}
-use Rattle.canon_sites.specs.Naming.{World, own_name}
-use Rattle.canon_sites.specs.Locals.{Locals, with_names}
-use Rattle.canon_sites.specs.Sites.{Site}
-use Rattle.canon_scope.specs.Logs.{used_place}
-use Rattle.canon_blocks.specs.Binding.{same_place, binder_of, used_definition, uses_among}
-use Rattle.canon_blocks.specs.Blocks.{Made, NoMade, group_of, made_at, groups_in}
-use Rattle.canon_blocks.proofs.Binding.{binder_within, all_within, used_by_places}
-use Rattle.elm_proper.specs.Proper.{Scope, among, AreFresh, ProperGroups, after}
+use Rattle.canon_env.specs.Naming.{World, own_name}
+use Rattle.canon_env.specs.Locals.{Locals, with_names}
+use Rattle.canon_env.specs.Sites.{Site}
+use Rattle.canon_expr.specs.Logs.{used_place}
+use Rattle.canon_expr.specs.Binding.{same_place, binder_of, used_definition, uses_among}
+use Rattle.canon_expr.specs.Blocks.{Made, NoMade, group_of, made_at, groups_in}
+use Rattle.canon_expr.proofs.CanonBlocksBinding.{binder_within, all_within, used_by_places}
+use Rattle.elm_canon.specs.Proper.{Scope, among, AreFresh, ProperGroups, after}
 use Rattle.canon_proper.specs.Written.{StandApart}
 use Rattle.canon_proper.specs.Worlds.{HasNames, operator_ref}
 use Rattle.canon_proper.proofs.Scopes.{refs, refs-append, or_right}

@@ -11,14 +11,14 @@ use Rattle.elm_canon.specs.declared.reference.Ref.TheVariants.{Top}
 use Rattle.canon_env.specs.Exposing.{is_operator}
 use Rattle.canon_env.specs.Found.{Found, Nothing, One, Several}
 use Rattle.canon_env.specs.Shown.{MakerMeaning, OfUnion, OfRecord}
-use Rattle.canon_sites.specs.Naming.{World, own_name}
-use Rattle.canon_calls.specs.Operators.{meaning_of, function_of}
-use Rattle.canon_calls.specs.Callees.{Callee, Head, Maker, Plain, plain, given, finished_by, finished}
-use Rattle.canon_calls.specs.Callees.{top_name, maker_head, joined_by, joined, joined_in, chain_of}
-use Rattle.canon_calls.specs.declared.operators.Between.{Between}
-use Rattle.canon_calls.specs.declared.operators.Between.TheVariants.{ToRight, ToLeft, Computes, Decides, Calls}
-use Rattle.elm_proper.specs.Constructors.{is_constructor}
-use Rattle.elm_proper.specs.Proper.{Scope, IsIn, Proper, AllProper, count_exprs}
+use Rattle.canon_env.specs.Naming.{World, own_name}
+use Rattle.canon_expr.specs.Operators.{meaning_of, function_of}
+use Rattle.canon_expr.specs.Callees.{Callee, Head, Maker, Plain, plain, given, finished_by, finished}
+use Rattle.canon_expr.specs.Callees.{top_name, maker_head, joined_by, joined, joined_in, chain_of}
+use Rattle.canon_expr.specs.declared.operators.Between.{Between}
+use Rattle.canon_expr.specs.declared.operators.Between.TheVariants.{ToRight, ToLeft, Computes, Decides, Calls}
+use Rattle.elm_canon.specs.Constructors.{is_constructor}
+use Rattle.elm_canon.specs.Proper.{Scope, IsIn, Proper, AllProper, count_exprs}
 use Rattle.canon_proper.specs.Worlds.{IsMaker, HasNames}
 use Rattle.canon_proper.proofs.Patterns.{IfMaker}
 

@@ -5,7 +5,7 @@ use Rattle.std.specs.Prelude.{Option, slice_index_or, ◌&&◌, not, if◌then�
 use Rattle.std.specs.List.{enumerate_from, flat_map}
 use Rattle.std.proofs.Common.{arith}
 use Rattle.elm_base.specs.declared.fault.Code.TheVariants.{RecursiveValue}
-use Rattle.binding_groups.specs.InOrder.{uses_itself}
+use Rattle.decl_groups.specs.InOrder.{uses_itself}
 use Rattle.std.proofs.lemmas.Bool.{false≢true}
 use Rattle.elm_tree.specs.Tree as tree
 use Rattle.elm_tree.specs.Tree.{Pos, Word}
@@ -14,23 +14,23 @@ use Rattle.elm_canon.specs.Tree.{Located, Annotation, exprs_of}
 use Rattle.elm_canon.specs.declared.reference.Ref.{Ref}
 use Rattle.elm_canon.specs.declared.reference.Ref.TheVariants.{Local}
 use Rattle.canon_env.specs.Imports.{name_of}
-use Rattle.canon_sites.specs.Naming.{World, maker_found}
-use Rattle.canon_sites.specs.Locals.{Locals, with_names}
-use Rattle.canon_sites.specs.Sites.{Site, FieldsTogether, Reaching, Defined, faults_at, finding}
-use Rattle.canon_sites.specs.Patterns.{words_of, words_of_all, list_sites, pattern_sites, match_sites, match_sites_all}
-use Rattle.canon_sites.specs.Patterns.{binding_sites, pattern_of, patterns_of}
-use Rattle.canon_calls.specs.Callees.{finished}
-use Rattle.canon_blocks.specs.Binding.{is_lambda, is_function, bound_in, bound_by, bound_by_each, defined_in}
-use Rattle.canon_blocks.specs.Binding.{defined_by, uses_among}
-use Rattle.canon_blocks.specs.Blocks.{Made, NoMade, made_of, title_of, joined_sites, reaching_sites}
-use Rattle.canon_leaves.specs.Exprs.{expr_sites, exprs_sites, part_sites, chain_sites, branch_sites, definitions_sites}
-use Rattle.canon_leaves.specs.Exprs.{definition_sites, callee, meant, meant_each, meant_parts, callees, meant_branches}
-use Rattle.canon_leaves.specs.Exprs.{made_in, made_by, annotation_of, part_words, accessed, one, block_groups}
-use Rattle.canon_leaves.specs.Exprs.{long_word}
-use Rattle.elm_proper.specs.Spelled.{is_word, is_spelled, are_fields}
-use Rattle.elm_proper.specs.Proper as proper
-use Rattle.elm_proper.specs.Proper.{Scope, AreFresh, with_all, Proper, Binds, BindsAll, ProperBranches}
-use Rattle.elm_proper.specs.Proper.{all_bound_by, after, ProperGroups}
+use Rattle.canon_env.specs.Naming.{World, maker_found}
+use Rattle.canon_env.specs.Locals.{Locals, with_names}
+use Rattle.canon_env.specs.Sites.{Site, FieldsTogether, Reaching, Defined, faults_at, finding}
+use Rattle.canon_env.specs.Patterns.{words_of, words_of_all, list_sites, pattern_sites, match_sites, match_sites_all}
+use Rattle.canon_env.specs.Patterns.{binding_sites, pattern_of, patterns_of}
+use Rattle.canon_expr.specs.Callees.{finished}
+use Rattle.canon_expr.specs.Binding.{is_lambda, is_function, bound_in, bound_by, bound_by_each, defined_in}
+use Rattle.canon_expr.specs.Binding.{defined_by, uses_among}
+use Rattle.canon_expr.specs.Blocks.{Made, NoMade, made_of, title_of, joined_sites, reaching_sites}
+use Rattle.canon_expr.specs.Exprs.{expr_sites, exprs_sites, part_sites, chain_sites, branch_sites, definitions_sites}
+use Rattle.canon_expr.specs.Exprs.{definition_sites, callee, meant, meant_each, meant_parts, callees, meant_branches}
+use Rattle.canon_expr.specs.Exprs.{made_in, made_by, annotation_of, part_words, accessed, one, block_groups}
+use Rattle.canon_expr.specs.Exprs.{long_word}
+use Rattle.elm_canon.specs.Spelled.{is_word, is_spelled, are_fields}
+use Rattle.elm_canon.specs.Proper as proper
+use Rattle.elm_canon.specs.Proper.{Scope, AreFresh, with_all, Proper, Binds, BindsAll, ProperBranches}
+use Rattle.elm_canon.specs.Proper.{all_bound_by, after, ProperGroups}
 use Rattle.canon_proper.specs.Written.{IsSpelled, AreSpelled, AreSpelledOperands, AreSpelledFields, AreSpelledBranches}
 use Rattle.canon_proper.specs.Written.{AreSpelledDefinitions, IsSpelledDefinition, has_parameter, StandApart}
 use Rattle.canon_proper.specs.Patterns.{AreSpelledWords, AreSpelledPatterns, IsSpelledPattern}

@@ -22,3 +22,35 @@ pub mod Exprs
 pub mod Narrowing
 -- what the rows of names say
 pub mod Rows
+-- words and literals as units of UTF-16
+pub mod Units
+-- which names name modules
+pub mod Homes
+-- the names of modules by their paths
+pub mod Paths
+-- what the pieces of a text are
+pub mod Pieces
+-- where tokens stand
+pub mod Order
+-- how many tokens a text has
+pub mod Counts
+-- what each symbol of the grammar guarantees of words
+pub mod Roles
+-- what tokens guarantee by their classes
+pub mod Classes
+-- where the words of a value stand
+pub mod Ranges
+-- what is shown of each value
+pub mod Values
+-- what each action makes is spelled
+pub mod Making
+-- what each action makes has its words in order
+pub mod Standing
+-- along a derivation
+pub mod Walking
+-- what is shown of each value
+pub mod ParsedFieldsValues
+-- what each action makes
+pub mod ParsedFieldsMaking
+-- along a derivation
+pub mod ParsedFieldsWalking

@@ -4,13 +4,13 @@ use Rattle.std.proofs.lemmas.Bool.{false≢true}
 use Rattle.elm_tree.specs.Tree.{Pos, Word}
 use Rattle.elm_canon.specs.declared.reference.Ref.{Ref}
 use Rattle.elm_canon.specs.Tree.{Group, Together, groups_of}
-use Rattle.canon_sites.specs.Naming.{World}
-use Rattle.canon_sites.specs.Locals.{Locals}
-use Rattle.canon_sites.specs.Sites.{Site}
-use Rattle.canon_blocks.specs.Blocks.{Made, NoMade, MadeFunction, MadeConstant, MadeParts, functions_in, group_of}
-use Rattle.elm_proper.specs.Spelled.{is_spelled}
-use Rattle.elm_proper.specs.Proper.{Scope, AreFresh, with_all, ProperPattern, bound_by, all_bound_by, BindsAll, Proper}
-use Rattle.elm_proper.specs.Proper.{is_function, ProperGroups, ProperFunctions, function_names, group_names, after}
+use Rattle.canon_env.specs.Naming.{World}
+use Rattle.canon_env.specs.Locals.{Locals}
+use Rattle.canon_env.specs.Sites.{Site}
+use Rattle.canon_expr.specs.Blocks.{Made, NoMade, MadeFunction, MadeConstant, MadeParts, functions_in, group_of}
+use Rattle.elm_canon.specs.Spelled.{is_spelled}
+use Rattle.elm_canon.specs.Proper.{Scope, AreFresh, with_all, ProperPattern, bound_by, all_bound_by, BindsAll, Proper}
+use Rattle.elm_canon.specs.Proper.{is_function, ProperGroups, ProperFunctions, function_names, group_names, after}
 use Rattle.canon_proper.proofs.Scopes.{refs}
 use Rattle.canon_proper.proofs.Stands.{Stands, AreQuiet}
 

@@ -6,11 +6,11 @@ use Rattle.elm_canon.specs.Tree.{Exprs, NoExpr, MoreExpr, Branches, NoBranch, Mo
 use Rattle.elm_canon.specs.Tree.{Group, Together, Constant, Destructure, Functions, NoFunction, MoreFunction}
 use Rattle.elm_canon.specs.declared.reference.Ref.{Ref}
 use Rattle.elm_canon.specs.declared.reference.Ref.TheVariants.{Local, Top}
-use Rattle.canon_uses.specs.Uses.{expr_uses, exprs_uses, branches_uses, groups_uses, group_uses, functions_uses}
-use Rattle.elm_proper.specs.Proper.{Scope, among, IsIn, with_all, AreFresh, bound_by, all_bound_by, after}
-use Rattle.elm_proper.specs.Proper.{Proper, AllProper, ProperBranches, ProperGroups, ProperGroup, ProperFunctions}
-use Rattle.elm_proper.specs.Proper.{function_names, group_names}
-use Rattle.group_order.proofs.Ordering.{not_true}
+use Rattle.canon_env.specs.Uses.{expr_uses, exprs_uses, branches_uses, groups_uses, group_uses, functions_uses}
+use Rattle.elm_canon.specs.Proper.{Scope, among, IsIn, with_all, AreFresh, bound_by, all_bound_by, after}
+use Rattle.elm_canon.specs.Proper.{Proper, AllProper, ProperBranches, ProperGroups, ProperGroup, ProperFunctions}
+use Rattle.elm_canon.specs.Proper.{function_names, group_names}
+use Rattle.decl_groups.proofs.Ordering.{not_true}
 use Rattle.std.proofs.lemmas.Bool.{false≢true}
 use Rattle.canon_proper.specs.Narrower.{IsNarrower, KeepsAll}
 use Rattle.canon_proper.proofs.Scopes.{among-with_all, in_first}

@@ -15,15 +15,15 @@ use Rattle.elm_canon.specs.declared.reference.Ref.TheVariants.{Local}
 use Rattle.canon_env.specs.Imports.{name_of}
 use Rattle.canon_env.specs.Found.{Found, Nothing, One, Several, Row, found_in, find, own_or, is_written, meant}
 use Rattle.canon_env.specs.Shown.{MakerMeaning}
-use Rattle.canon_sites.specs.Naming.{World, maker_found, qualifier_of, own_name}
-use Rattle.canon_sites.specs.Locals.{Locals}
-use Rattle.canon_sites.specs.Sites.{MakerMatch, Binding, BoundTogether}
-use Rattle.canon_sites.specs.Patterns.{words_of, words_of_all, count_of, match_sites, match_sites_all, binding_sites}
-use Rattle.canon_sites.specs.Patterns.{pattern_of, patterns_of, construct_of, items_of, list_of}
-use Rattle.elm_proper.specs.Constructors.{is_constructor}
-use Rattle.elm_proper.specs.Proper as proper
-use Rattle.elm_proper.specs.Proper.{Scope, among, AreFresh, with_all, ProperPattern, ProperPatterns}
-use Rattle.elm_proper.specs.Proper.{bound_by, all_bound_by}
+use Rattle.canon_env.specs.Naming.{World, maker_found, qualifier_of, own_name}
+use Rattle.canon_env.specs.Locals.{Locals}
+use Rattle.canon_env.specs.Sites.{MakerMatch, Binding, BoundTogether}
+use Rattle.canon_env.specs.Patterns.{words_of, words_of_all, count_of, match_sites, match_sites_all, binding_sites}
+use Rattle.canon_env.specs.Patterns.{pattern_of, patterns_of, construct_of, items_of, list_of}
+use Rattle.elm_canon.specs.Constructors.{is_constructor}
+use Rattle.elm_canon.specs.Proper as proper
+use Rattle.elm_canon.specs.Proper.{Scope, among, AreFresh, with_all, ProperPattern, ProperPatterns}
+use Rattle.elm_canon.specs.Proper.{bound_by, all_bound_by}
 use Rattle.canon_proper.specs.Patterns.{IsSpelledPattern, AreSpelledPatterns}
 use Rattle.canon_proper.specs.Worlds.{IsMaker, AreMakers, HasMakers}
 use Rattle.canon_proper.proofs.Scopes.{refs, refs-append, refs_locals, fresh_split, fresh_apart, fresh_from, fields_are}

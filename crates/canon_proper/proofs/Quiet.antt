@@ -11,10 +11,10 @@ use Rattle.elm_base.specs.declared.fault.Code.TheVariants.{UnknownConstructor, C
 use Rattle.canon_env.specs.Imports.{name_of}
 use Rattle.canon_env.specs.Found.{Found, Nothing, One, Several, find}
 use Rattle.canon_env.specs.Shown.{MakerMeaning, OfUnion, OfRecord}
-use Rattle.canon_sites.specs.Naming.{World, maker_found}
-use Rattle.canon_sites.specs.Locals.{Locals}
-use Rattle.canon_sites.specs.Sites.{Site, MakerMatch, Binding, BoundTogether, FieldsTogether, faults_at, unless_one}
-use Rattle.canon_sites.specs.Sites.{match_faults, repeats, at_word, at_long, is_found}
+use Rattle.canon_env.specs.Naming.{World, maker_found}
+use Rattle.canon_env.specs.Locals.{Locals}
+use Rattle.canon_env.specs.Sites.{Site, MakerMatch, Binding, BoundTogether, FieldsTogether, faults_at, unless_one}
+use Rattle.canon_env.specs.Sites.{match_faults, repeats, at_word, at_long, is_found}
 
 -- ---- lists
 

@@ -17,8 +17,8 @@ use Rattle.canon_env.specs.Env.{record_maker}
 use Rattle.canon_env.specs.Env.{declared_alternatives, maker, when}
 use Rattle.canon_env.specs.declared.found.Named.{Named}
 use Rattle.canon_env.proofs.Adding.{one_name}
-use Rattle.canon_sites.specs.Naming.{World, qualifier_of, own_name}
-use Rattle.elm_proper.specs.Proper.{Scope, IsIn}
+use Rattle.canon_env.specs.Naming.{World, qualifier_of, own_name}
+use Rattle.elm_canon.specs.Proper.{Scope, IsIn}
 use Rattle.canon_proper.specs.Worlds.{IsMaker, AreMakers, HasNames}
 use Rattle.canon_proper.specs.Rows.{AreInScope, HasRows, AreConstructors, AreUnions, HaveUnions}
 

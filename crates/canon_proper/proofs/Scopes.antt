@@ -11,9 +11,9 @@ use Rattle.elm_canon.specs.declared.reference.Ref.TheVariants.{Local, Top}
 use Rattle.canon_env.specs.Imports.{name_of}
 use Rattle.canon_env.specs.Exposing.{is_among}
 use Rattle.canon_env.proofs.Adding.{one_name}
-use Rattle.canon_sites.specs.Sites.{repeats_from}
-use Rattle.elm_proper.specs.Spelled.{are_fields}
-use Rattle.elm_proper.specs.Proper.{Scope, among, IsIn, with_all, AreFresh, locals}
+use Rattle.canon_env.specs.Sites.{repeats_from}
+use Rattle.elm_canon.specs.Spelled.{are_fields}
+use Rattle.elm_canon.specs.Proper.{Scope, among, IsIn, with_all, AreFresh, locals}
 use Rattle.canon_proper.specs.Patterns.{AreSpelledWords}
 
 -- ---- names

@@ -16,13 +16,13 @@ use Rattle.canon_env.specs.Found.{Found, Nothing, One, Several}
 use Rattle.canon_env.specs.Shown.{MakerMeaning}
 use Rattle.canon_env.specs.declared.found.Meant.{Meant}
 use Rattle.canon_env.proofs.Adding.{one_name, same_name-sym}
-use Rattle.canon_sites.specs.Naming.{World, value_found, maker_found, own_name}
-use Rattle.canon_sites.specs.Locals.{Locals, with_names}
-use Rattle.canon_sites.specs.Sites.{Site, ValueUse, MakerUse, OperatorUse, faults_at, value_meaning, value_faults}
-use Rattle.canon_sites.specs.Sites.{local_or, is_unqualified, unless_one, at_word}
-use Rattle.canon_scope.specs.Logs.{used_place, local_place}
-use Rattle.canon_calls.specs.Callees.{value_of}
-use Rattle.elm_proper.specs.Proper.{Scope, among, IsIn, with_all, Proper}
+use Rattle.canon_env.specs.Naming.{World, value_found, maker_found, own_name}
+use Rattle.canon_env.specs.Locals.{Locals, with_names}
+use Rattle.canon_env.specs.Sites.{Site, ValueUse, MakerUse, OperatorUse, faults_at, value_meaning, value_faults}
+use Rattle.canon_env.specs.Sites.{local_or, is_unqualified, unless_one, at_word}
+use Rattle.canon_expr.specs.Logs.{used_place, local_place}
+use Rattle.canon_expr.specs.Callees.{value_of}
+use Rattle.elm_canon.specs.Proper.{Scope, among, IsIn, with_all, Proper}
 use Rattle.canon_proper.specs.Worlds.{HasNames, operator_ref}
 use Rattle.canon_proper.proofs.Scopes.{refs, among-with_all, in_more, in_first, in_later}
 use Rattle.canon_proper.proofs.Quiet.{AreSound}

@@ -8,14 +8,14 @@ use Rattle.std.proofs.lemmas.Bool.{false≢true, or_parts}
 use Rattle.std.proofs.lemmas.List.{append_assoc, append-nil}
 use Rattle.decl_groups.specs.Groups.{list_at, Uses, Ascends, IsReady}
 use Rattle.decl_groups.proofs.Basics.{no_member, first_member, later_member, member_cases, ascends_head, ascends_tail}
-use Rattle.binding_groups.specs.InOrder.{uses_itself, AreWithin}
-use Rattle.group_order.proofs.Itself.{itself_at_once, itself_in}
+use Rattle.decl_groups.specs.InOrder.{uses_itself, AreWithin}
+use Rattle.decl_groups.proofs.Itself.{itself_at_once, itself_in}
 use Rattle.elm_canon.specs.declared.reference.Ref.{Ref}
 use Rattle.elm_canon.specs.Tree.{Group, Functions, Together, groups_of}
-use Rattle.canon_blocks.specs.Blocks.{Made, NoMade, MadeFunction, MadeConstant, MadeParts, functions_in, group_of}
-use Rattle.canon_blocks.specs.Blocks.{made_at}
-use Rattle.elm_proper.specs.Proper.{Scope, among, IsIn, AreFresh, with_all, ProperGroups, ProperFunctions}
-use Rattle.elm_proper.specs.Proper.{function_names, after, bound_by}
+use Rattle.canon_expr.specs.Blocks.{Made, NoMade, MadeFunction, MadeConstant, MadeParts, functions_in, group_of}
+use Rattle.canon_expr.specs.Blocks.{made_at}
+use Rattle.elm_canon.specs.Proper.{Scope, among, IsIn, AreFresh, with_all, ProperGroups, ProperFunctions}
+use Rattle.elm_canon.specs.Proper.{function_names, after, bound_by}
 use Rattle.canon_proper.proofs.Scopes.{among-append, among-with_all, fresh_split}
 use Rattle.canon_proper.proofs.Apart.{Apart, turned, fresh_none, fresh_less, fresh_both, fresh_in, in_either, in_left}
 use Rattle.canon_proper.proofs.Apart.{in_right, in_neither}

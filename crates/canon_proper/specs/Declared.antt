@@ -8,7 +8,7 @@ use Rattle.elm_tree.specs.Tree.{ConstructorOf, Definition, Annotate, Define, Des
 use Rattle.elm_tree.specs.Tree.{Declaration, Value, Port, Union, Alias}
 use Rattle.elm_canon.specs.Names.{Name}
 use Rattle.canon_env.specs.Imports.{name_of}
-use Rattle.elm_proper.specs.Spelled.{is_upper}
+use Rattle.elm_canon.specs.Spelled.{is_upper}
 use Rattle.canon_proper.specs.Patterns.{IsSpelledWord, AreSpelledWords}
 use Rattle.canon_proper.specs.Written.{IsSpelledDefinition}
 

@@ -4,3 +4,6 @@ pub mod Written
 pub mod Narrower
 pub mod Rows
 pub mod Declared
+pub mod Sound
+pub mod Spelled
+pub mod Laws

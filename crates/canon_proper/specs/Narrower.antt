@@ -3,7 +3,7 @@ use Rattle.std.specs.Prelude.{List}
 use Rattle.elm_canon.specs.Names.{Name}
 use Rattle.elm_canon.specs.declared.reference.Ref.{Ref}
 use Rattle.elm_canon.specs.declared.reference.Ref.TheVariants.{Local}
-use Rattle.elm_proper.specs.Proper.{Scope, IsIn}
+use Rattle.elm_canon.specs.Proper.{Scope, IsIn}
 
 -- the second has the local names of the first, and no names but those of the first
 pub record IsNarrower (a b : Scope) : Type 0 where

@@ -4,8 +4,8 @@ use Rattle.std.specs.Prelude.{◌≡◌, ◌<◌, List, [], ◌∷◌, true}
 use Rattle.elm_tree.specs.Tree.{Word, Pattern, Anything, Named, As, Exactly, Construct, ConsPattern, ListPattern}
 use Rattle.elm_tree.specs.Tree.{TuplePattern, FieldsPattern, Patterns, NoPattern, MorePattern}
 use Rattle.canon_env.specs.Imports.{name_of}
-use Rattle.canon_sites.specs.Patterns.{literal_of, count_of}
-use Rattle.elm_proper.specs.Spelled.{is_word, is_exact_literal}
+use Rattle.canon_env.specs.Patterns.{literal_of, count_of}
+use Rattle.elm_canon.specs.Spelled.{is_word, is_exact_literal}
 
 abbrev pub IsSpelledWord : Word → Type 0
 IsSpelledWord x = is_word (name_of x) ≡ true

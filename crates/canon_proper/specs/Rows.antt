@@ -7,9 +7,9 @@ use Rattle.elm_canon.specs.Tree.{UnionDeclaration}
 use Rattle.canon_env.specs.Env.{Known, declared_alternatives}
 use Rattle.canon_env.specs.Exposing.{is_operator}
 use Rattle.canon_env.specs.Found.{Row}
-use Rattle.canon_sites.specs.Naming.{World}
-use Rattle.elm_proper.specs.Constructors.{is_constructor}
-use Rattle.elm_proper.specs.Proper.{Scope, IsIn}
+use Rattle.canon_env.specs.Naming.{World}
+use Rattle.elm_canon.specs.Constructors.{is_constructor}
+use Rattle.elm_canon.specs.Proper.{Scope, IsIn}
 use Rattle.canon_proper.specs.Worlds.{operator_ref}
 
 -- ---- names

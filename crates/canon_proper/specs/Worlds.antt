@@ -9,11 +9,11 @@ use Rattle.canon_env.specs.Exposing.{is_operator, operator_home}
 use Rattle.canon_env.specs.Found.{Row, One}
 use Rattle.canon_env.specs.declared.found.Meant.{Meant}
 use Rattle.canon_env.specs.Shown.{MakerMeaning, OfUnion, OfRecord}
-use Rattle.canon_sites.specs.Naming.{World, value_found, maker_found, own_name}
-use Rattle.canon_sites.specs.Locals.{Locals}
-use Rattle.canon_calls.specs.Operators.{meaning_of}
-use Rattle.elm_proper.specs.Constructors.{is_constructor}
-use Rattle.elm_proper.specs.Proper.{Scope, among, IsIn}
+use Rattle.canon_env.specs.Naming.{World, value_found, maker_found, own_name}
+use Rattle.canon_env.specs.Locals.{Locals}
+use Rattle.canon_expr.specs.Operators.{meaning_of}
+use Rattle.elm_canon.specs.Constructors.{is_constructor}
+use Rattle.elm_canon.specs.Proper.{Scope, among, IsIn}
 
 abbrev pub IsMaker : MakerMeaning → Type 0
 IsMaker (OfUnion u c) = is_constructor u c ≡ true

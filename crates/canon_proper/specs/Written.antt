@@ -8,9 +8,9 @@ use Rattle.elm_tree.specs.Tree.{Update}
 use Rattle.elm_tree.specs.Tree.{Access, Exprs, NoExpr, MoreExpr, Parts, NoPart, MorePart, Branches, NoBranch}
 use Rattle.elm_tree.specs.Tree.{MoreBranch}
 use Rattle.elm_tree.specs.Tree.{Definitions, NoDefinition, MoreDefinition, Definition, Annotate, Define, Destructure}
-use Rattle.canon_sites.specs.Patterns.{literal_of}
-use Rattle.canon_blocks.specs.Binding.{same_place, bound_in}
-use Rattle.elm_proper.specs.Spelled.{is_exact_literal}
+use Rattle.canon_env.specs.Patterns.{literal_of}
+use Rattle.canon_expr.specs.Binding.{same_place, bound_in}
+use Rattle.elm_canon.specs.Spelled.{is_exact_literal}
 use Rattle.canon_proper.specs.Patterns.{IsSpelledWord, AreSpelledWords, IsSpelledPattern, AreSpelledPatterns}
 
 abbrev pub has_parameter : Patterns → Bool

@@ -2,3 +2,6 @@
 #![tactic(auto)]
 
 pub mod laws;
+pub mod parsed_fields_laws;
+pub mod parsed_words_laws;
+pub mod token_words_laws;

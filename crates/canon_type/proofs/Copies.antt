@@ -6,7 +6,7 @@ use Rattle.elm_canon.specs.Names.{Name}
 use Rattle.elm_canon.specs.Tree as plain
 use Rattle.elm_canon.specs.Tree.{annotations_of, FieldTypes, field_types_of, field_names}
 use Rattle.elm_canon.specs.View.{NamedType}
-use Rattle.canon_sites.specs.Expanding.{join_fields, extended}
+use Rattle.canon_env.specs.Expanding.{join_fields, extended}
 use Rattle.canon_type.specs.Extending.{names_of}
 use Rattle.elm_canon.specs.View.{annotation_view, field_type_view, types_view, function_type, record_type}
 use Rattle.elm_canon.specs.declared.tree.Annotation.{Annotation}

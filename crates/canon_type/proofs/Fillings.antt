@@ -14,8 +14,8 @@ use Rattle.elm_canon.proofs.Views.{named_type, type_of_function, tuple_type, typ
 use Rattle.std.proofs.lemmas.List.{map-append, length-map, length-append, drop-drop}
 use Rattle.canon_env.proofs.Filtering.{map_next}
 use Rattle.canon_env.proofs.Adding.{one_name}
-use Rattle.canon_sites.specs.Expanding as sites
-use Rattle.canon_sites.specs.Expanding.{filled_in, fill, fill_all, fill_fields, bad_fields, bad_in_all, bad_in_fields}
+use Rattle.canon_env.specs.Expanding as sites
+use Rattle.canon_env.specs.Expanding.{filled_in, fill, fill_all, fill_fields, bad_fields, bad_in_all, bad_in_fields}
 use Rattle.canon_type.specs.Filling.{looked_up, entry, filled_field, bad_field}
 
 -- ---- one parameter more

@@ -4,8 +4,8 @@ use Rattle.indexmap.specs.IndexMap.{get}
 use Rattle.elm_canon.specs.Names.{Name, same_name}
 use Rattle.elm_canon.specs.Tree as plain
 use Rattle.elm_canon.specs.View.{annotation_view, NamedType}
-use Rattle.canon_sites.specs.Expanding as sites
-use Rattle.canon_sites.specs.Expanding.{fill, bad_fields}
+use Rattle.canon_env.specs.Expanding as sites
+use Rattle.canon_env.specs.Expanding.{fill, bad_fields}
 use Rattle.canon_type.specs.declared.filling.Filling.{Filling}
 
 -- what stands for a, if anything does

@@ -2,3 +2,14 @@ pub mod Shape
 pub mod Extending
 pub mod Filling
 pub mod Ports
+pub mod Walking
+pub mod Written
+pub mod Parameters
+pub mod Recursion
+pub mod Kept
+pub mod Unions
+pub mod CanonDeclaredKept
+pub mod Types
+pub mod CanonAliasesKept
+pub mod DeclaredTypes
+pub mod DeclaredTypesKept

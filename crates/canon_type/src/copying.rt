@@ -3,8 +3,8 @@
 ghost use Rattle.std.specs.Prelude.{◌≡◌, map, IfOk};
 ghost use Rattle.elm_canon.specs.View.{annotation_view, field_type_view};
 
+use elm_base::names::Name;
 use elm_canon::tree::{Annotation, FieldType};
-use elm_names::name::Name;
 use std::alloc::{AllocError, Global};
 use std::sync::Arc;
 

@@ -1,18 +1,19 @@
 //! Records that extend what stands for a parameter.
 
-ghost use Rattle.std.specs.Prelude.{◌≡◌, ◌++◌, ◌||◌, map, filter, IfOk, OnOk};
+ghost use Rattle.std.specs.Prelude.{◌≡◌, ◌++◌, ◌||◌, false, map, filter, IfOk, OnOk};
 ghost use Rattle.indexmap.specs.IndexSet.{contains};
 ghost use Rattle.elm_canon.specs.Names.{Name, same_name};
 ghost use Rattle.elm_canon.specs.Tree.{field_types_of};
 ghost use Rattle.elm_canon.specs.View.{annotation_view, field_type_view};
 ghost use Rattle.canon_env.specs.Exposing.{is_among};
-ghost use Rattle.canon_sites.specs.Expanding.{extended, bad_on};
+ghost use Rattle.canon_env.specs.Expanding.{extended, bad_on};
 ghost use Rattle.canon_type.specs.Extending.{names_of, repeated};
 
 use crate::copying::{copy, copy_fields};
+use crate::outcomes::when_done;
 use crate::shape::{Shape, shape_of};
+use elm_base::names::Name;
 use elm_canon::tree::{Annotation, FieldType};
-use elm_names::name::Name;
 use indexmap::IndexSet;
 use std::alloc::{AllocError, Global};
 
@@ -53,16 +54,25 @@ fn insert(names: &mut IndexSet<Name>, name: &Name) -> Result<(), AllocError>
     Ok(())
 }
 
+/// Adds the names of fields.
+fn insert_all(names: &mut IndexSet<Name>, fields: &[FieldType]) -> Result<(), AllocError>
+    ensures { OnOk result (((x : Name) → contains same_name names.old x ≡ false)
+        → (x : Name) → contains same_name names.new x ≡ is_among x (names_of fields.now)) }
+{
+    for field in fields {
+        insert(names, &field.name)?;
+    }
+    Ok(())
+}
+
 /// The names of fields.
 fn names_in(alloc: Global, fields: &[FieldType]) -> Result<IndexSet<Name>, AllocError>
     ensures { IfOk result (λ s. (x : Name) → contains same_name s x
         ≡ is_among x (names_of fields.now)) }
 {
     let mut names = IndexSet::new(alloc);
-    for field in fields {
-        insert(&mut names, &field.name)?;
-    }
-    Ok(names)
+    let done = insert_all(&mut names, fields);
+    when_done(done, names)
 }
 
 /// Adds the names of the fields `fields`.

@@ -3,12 +3,12 @@
 ghost use Rattle.std.specs.Prelude.{◌≡◌, ◌++◌, [], ◌∷◌, drop, map, flat_map, IfOk, OnOk};
 ghost use Rattle.elm_canon.specs.Tree.{field_types_of};
 ghost use Rattle.elm_canon.specs.View.{annotation_view, field_type_view, types_view};
-ghost use Rattle.canon_sites.specs.Expanding as sites;
+ghost use Rattle.canon_env.specs.Expanding as sites;
 ghost use Rattle.canon_type.specs.Filling.{Fills, bad_field, entry, filled_field};
 
 use crate::extending::{extended, push_bad};
+use elm_base::names::Name;
 use elm_canon::tree::{Annotation, FieldType};
-use elm_names::name::Name;
 use indexmap::IndexMap;
 use std::alloc::{AllocError, Global};
 use std::sync::Arc;

@@ -6,8 +6,8 @@ ghost use Rattle.canon_type.specs.Ports.{form_to, incoming_form, incoming_to, is
 ghost use Rattle.canon_type.specs.Ports.{named_to, port_form, port_to, port_view, same_variable, unless_blank};
 
 use crate::shape::{Shape, shape_of};
+use elm_base::names::Name;
 use elm_canon::tree::Annotation;
-use elm_names::name::Name;
 
 /// How a port is used, by its type.
 #[derive(Clone, Copy)]

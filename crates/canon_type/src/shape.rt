@@ -4,8 +4,8 @@ ghost use Rattle.std.specs.Prelude.{◌≡◌};
 ghost use Rattle.elm_canon.specs.View.{annotation_view};
 ghost use Rattle.canon_type.specs.Shape.{shape_view, HasResult};
 
+use elm_base::names::Name;
 use elm_canon::tree::{Annotation, FieldType};
-use elm_names::name::Name;
 
 /// The outermost form of a type.
 #[derive(Clone, Copy)]

@@ -16,7 +16,7 @@ use Rattle.elm_make.specs.End.{HasCause, IsDone, IsNotDone, IsOnly, IsShort, IsT
 use Rattle.elm_make.specs.End.{lines_of}
 use Rattle.elm_make.specs.View.{outcome_view}
 use Rattle.build_safety.specs.Safety.{BuildsAreNeverStuck}
-use Rattle.project_build.specs.Outcomes.{Clean, Faulty, Outcome, Stopped, Text, fault_lines}
+use Rattle.project_parts.specs.Outcomes.{Clean, Faulty, Outcome, Stopped, Text, fault_lines}
 use Rattle.project_file.specs.Paths.{normal_path}
 use Rattle.commands.specs.Causes.{failure_line, memory_line}
 use Rattle.commands.specs.Effect.{build_effect, complaint}

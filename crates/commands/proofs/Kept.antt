@@ -9,7 +9,7 @@ use Rattle.elm_files.specs.States.{SinkState}
 use Rattle.elm_files.specs.Texts.{LongerByPart, longer}
 use Rattle.elm_files.specs.Tree.{Tree, file_at, with_file}
 use Rattle.elm_files.proofs.Trees.{file_at-with_file_other}
-use Rattle.project_build.specs.Outcomes.{Text, compiled_line}
+use Rattle.project_parts.specs.Outcomes.{Text, compiled_line}
 use Rattle.project_file.specs.Paths.{normal_path}
 use Rattle.commands.specs.Causes.{SomeCountRose, TellsFile, err_rose, failure_line, file_rose, memory_line, out_rose}
 use Rattle.commands.specs.Effect.{Effect, build_effect, complaint}

@@ -12,7 +12,7 @@ use Rattle.run_files.specs.declared.course.Ended.TheVariants as ended
 use Rattle.run_files.specs.RunEnd as end
 use Rattle.run_files.specs.RunEnd.{IsRun, IsRunInPart}
 use Rattle.run_files.specs.Runs.{Outcome, Ran, Refused}
-use Rattle.run_text.specs.Told.{is_ready, told_text}
+use Rattle.run_files.specs.Told.{is_ready, told_text}
 use Rattle.runs.specs.Trace.{Trace}
 use Rattle.commands.specs.Causes.{memory_line, out_rose}
 use Rattle.commands.specs.Effect.{run_effect}

@@ -8,7 +8,7 @@ use Rattle.elm_files.proofs.Trees.{file_at-with_file}
 use Rattle.build_safety.specs.Safety.{BuildsAreNeverStuck}
 use Rattle.elm_make.specs.Counts.{Counts}
 use Rattle.elm_make.specs.End.{IsOnly}
-use Rattle.project_build.specs.Outcomes.{Outcome, Text, Clean}
+use Rattle.project_parts.specs.Outcomes.{Outcome, Text, Clean}
 use Rattle.project_file.specs.Paths.{normal_path}
 use Rattle.run_files.specs.Runs as runs
 use Rattle.run_files.specs.Runs.{RunsTo}

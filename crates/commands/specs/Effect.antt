@@ -3,11 +3,11 @@ use Rattle.std.specs.Prelude.{◌≡◌, ℕ, List, [], Option, Some, None, IfSo
 use Rattle.command_line.specs.Command.{Command, make, run}
 use Rattle.elm_files.specs.Tree.{Tree, with_file}
 use Rattle.elm_make.specs.Counts.{Counts}
-use Rattle.project_build.specs.Outcomes.{Outcome, Stopped, Faulty, Text, Clean, fault_lines, compiled_line}
+use Rattle.project_parts.specs.Outcomes.{Outcome, Stopped, Faulty, Text, Clean, fault_lines, compiled_line}
 use Rattle.project_file.specs.Paths.{normal_path}
 use Rattle.run_files.specs.Runs as runs
 use Rattle.run_files.specs.Runs.{Refused, Ran, RunsTo}
-use Rattle.run_text.specs.Told.{told_text, is_ready}
+use Rattle.run_files.specs.Told.{told_text, is_ready}
 use Rattle.commands.specs.declared.program.TheConstants.{USAGE}
 
 -- the exit status, what standard output and standard error get, and what the files hold afterwards

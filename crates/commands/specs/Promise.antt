@@ -7,9 +7,9 @@ use Rattle.elm_files.specs.Answers.{SomeRose}
 use Rattle.elm_files.specs.Texts.{LongerByPart, longer}
 use Rattle.elm_files.specs.Tree.{SameElsewhere, Tree, file_at}
 use Rattle.elm_meaning.specs.Run.{Program}
-use Rattle.build_meaning.specs.Meaning.{IsSourceProgram, Translates}
-use Rattle.build_safety.specs.Safety.{LeavesPorts, IsNeverStuck}
-use Rattle.project_build.specs.Outcomes.{Clean, Text}
+use Rattle.build_safety.specs.Meaning.{IsSourceProgram, Translates}
+use Rattle.build_safety.specs.Safety.{IsNeverStuck}
+use Rattle.project_parts.specs.Outcomes.{Clean, Text}
 use Rattle.project_file.specs.Paths.{normal_path}
 use Rattle.commands.specs.Causes.{IsEither, SomeCountRose, TellsFile, memory_line}
 use Rattle.commands.specs.Effect.{Effect, HasEffect}
@@ -55,10 +55,10 @@ IsKnown (Some command) tree = IsSome tree
 IsKnown None tree = Unit {0}
 
 -- The text has one tree, which runs as the program does that the modules of the entry's project make. That program
--- never gets stuck, where it leaves commands and subscriptions as ports made them
+-- never gets stuck
 abbrev pub IsTranslation : Tree → List ℕ → List ℕ → Type 0
 IsTranslation files entry text =
-    (p : Program) × IsSourceProgram files entry p × Translates p text × (LeavesPorts p → IsNeverStuck p)
+    (p : Program) × IsSourceProgram files entry p × Translates p text × IsNeverStuck p
 
 -- Each text of fewer than 2 to the 32nd bytes that the files give for `make` is the translation of the project. The
 -- path of the entry is in UTF-8, as all words are.

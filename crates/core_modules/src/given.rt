@@ -7,10 +7,10 @@ ghost use Rattle.core_modules.specs.Given.{given_types, given_import, given_impo
 
 use canon_env::import::{Exposing, Import};
 use canon_env::shown::Shown;
+use elm_base::names::Name;
 use elm_base::units::Units;
 use elm_canon::tree::UnionDeclaration;
 use elm_canon::unions::{Union, UnionShape};
-use elm_names::name::Name;
 use std::alloc::{AllocError, Global};
 use std::sync::Arc;
 

@@ -10,3 +10,5 @@ pub mod Looking
 pub mod Branching
 pub mod Chains
 pub mod Doing
+pub mod Binding
+pub mod Ending

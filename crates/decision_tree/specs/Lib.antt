@@ -1,3 +1,5 @@
 pub mod Views
 pub mod Marks
 pub mod Run
+pub mod Before
+pub mod Opened

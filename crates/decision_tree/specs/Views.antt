@@ -6,7 +6,7 @@ use Rattle.elm_canon.specs.View.{pattern_view, items_before, nil_pattern}
 use Rattle.js_tree.specs.Tree.{Js, JVar, Made}
 use Rattle.js_emit.specs.Matrix as matrix
 use Rattle.js_emit.specs.Matrix.{arity_of, left_by, left_over}
-use Rattle.emit_patterns.specs.Before.{path_js}
+use Rattle.decision_tree.specs.Before.{path_js}
 use Rattle.decision_tree.specs.declared.part.Part.{Part}
 use Rattle.decision_tree.specs.declared.part.Part.TheVariants as part
 use Rattle.decision_tree.specs.declared.part.Inner.{Inner}

@@ -10,13 +10,13 @@ ghost use Rattle.js_emit.specs.Choice.{choice, test_js};
 ghost use Rattle.decision_tree.specs.Views.{test_view, path_view, rows_view};
 ghost use Rattle.decision_tree.specs.Run.{matrix_js, chain_js, done, all_done, left_tasks};
 
+use crate::bound::push_path;
 use crate::part::{Inner, Part};
 use crate::path::root;
 use crate::row::{Row, Wanted, add_row};
 use crate::split::{Chain, Look, Matrix, chain_of, is_last, looked_at, narrowed};
 use crate::test::{Test, push_test};
 use elm_canon::tree::Branch;
-use emit_patterns::bound::push_path;
 use js_tree::tree::Node;
 use js_tree::trees::Trees;
 use std::alloc::{AllocError, Global};

@@ -7,7 +7,9 @@
 //! stack of its own, and not by calls in each other, so that its depth does not matter.
 #![tactic(auto)]
 
+pub mod bound;
 pub mod choice;
+pub mod parameters;
 mod part;
 mod path;
 mod row;

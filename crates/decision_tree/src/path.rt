@@ -34,7 +34,7 @@ pub fn copied(path: &Path) -> Result<Path, AllocError>
 }
 
 /// A part of what stands there.
-#[tactic(auto, using(emit_patterns::proofs::Binding::path_push))]
+#[tactic(auto, using(crate::proofs::Binding::path_push))]
 fn part(alloc: Global, path: &Path, number: usize) -> Result<Path, AllocError>
     ensures { IfOk result (λ p. (subject : ℕ)
         → path_view subject p ≡ JProperty (path_view subject path.now) (part_name number)) }

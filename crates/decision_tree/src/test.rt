@@ -13,7 +13,7 @@ ghost use Rattle.decision_tree.specs.Marks.{mark_of, same_marks};
 use elm_base::units::Units;
 use elm_canon::tree::Literal;
 use elm_canon::unions::{Alternative, Tag, Union, UnionShape};
-use emit_names::push::push_literal;
+use js_emit::push::push_literal;
 use js_tree::tree::{Node, Operator};
 use js_tree::trees::Trees;
 use std::alloc::{AllocError, Global};

@@ -14,3 +14,19 @@ pub mod Search
 pub mod Unique
 -- lists of places, their members and their order
 pub mod Basics
+-- where groups have an order, it is the one that is computed
+pub mod Computed
+-- what is computed of reaching is what uses lead to
+pub mod Reaching
+-- one more group is told
+pub mod Telling
+-- members of groups and of uses are places of definitions
+pub mod Within
+-- each definition stands in one group, and whether the group uses itself says whether the definition does
+pub mod Standing
+-- the computed order is one
+pub mod Ordering
+-- definitions that lead to themselves
+pub mod Itself
+-- walks, step by step
+pub mod Walking

@@ -3,7 +3,7 @@
 ghost use Rattle.std.specs.Prelude.{◌≡◌};
 ghost use Rattle.elm_canon.specs.Names.{same_ref};
 
-use elm_names::name::Name;
+use elm_base::names::Name;
 
 /// What a name means.
 #[derive(Clone, Drop)]

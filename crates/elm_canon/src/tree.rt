@@ -5,9 +5,9 @@
 
 use crate::reference::Ref;
 use crate::unions::{Alternative, Union};
+use elm_base::names::Name;
 use elm_base::position::Pos;
 use elm_base::units::Units;
-use elm_names::name::Name;
 use std::alloc::Global;
 use std::sync::Arc;
 

@@ -1,7 +1,7 @@
 //! The faults of the names and patterns of whole projects.
 
 ghost use Rattle.std.specs.Prelude.{map};
-ghost use Rattle.canon_pattern.specs.Literals.{AreLiterals};
+ghost use Rattle.canon_expr.specs.Literals.{AreLiterals};
 ghost use Rattle.elm_files.specs.Answers.{NoneFull};
 ghost use Rattle.elm_lexer.specs.View.{token_view};
 
@@ -9,20 +9,18 @@ use crate::names::{Outcome, import_lines, known_imports, line, resolved};
 use canon_env::env::Known;
 use canon_env::import::default_imports;
 use canon_env::shown::Shown;
-use canon_pattern::laws::literals_law;
+use canon_expr::canon_pattern_laws::literals_law;
 use core_modules::given::{GivenImport, given_imports, given_types};
 use core_modules::library::{CoreModule, core_library};
 use elm_base::fault::fault_line;
+use elm_base::names::Name;
 use elm_base::text::Text;
 use elm_canon::tree::UnionDeclaration;
 use elm_files::{FileError, Files, Got};
 use elm_lexer::TextError;
-use elm_names::name::Name;
 use elm_parser::{Parsed, parse_text};
+use import_graph::{CrawlEnd, Graph, Heads, Module, crawl};
 use indexmap::{IndexMap, IndexSet};
-use module_graph::{CrawlEnd, Graph, crawl};
-use module_heads::Heads;
-use module_walk::Module;
 use project_file::project::Project;
 use std::alloc::{AllocError, Global};
 use std::sync::Arc;

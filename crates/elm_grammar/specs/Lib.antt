@@ -6,3 +6,5 @@ pub mod Meaning
 pub mod Search
 pub mod Laws
 pub mod Examples
+-- written types
+pub mod Written

@@ -4,4 +4,5 @@
 pub mod action;
 pub mod classes;
 pub mod laws;
+pub mod parsed_types_laws;
 pub mod table;

@@ -11,22 +11,22 @@ use Rattle.elm_files.specs.Tree.{Tree}
 use Rattle.import_graph.specs.Order.{IsOrder}
 use Rattle.link.specs.Link as linked
 use Rattle.link.specs.Link.{Linked, Links, Unlinked, link}
-use Rattle.module_files.specs.Entries.{NamesEntry}
-use Rattle.module_graph.specs.Faults.{IsRefused}
-use Rattle.module_graph.specs.Graph.{AreModules, names_of, uses_of}
-use Rattle.module_heads.specs.Heads.{HasImports}
+use Rattle.import_graph.specs.Entries.{NamesEntry}
+use Rattle.import_graph.specs.Faults.{IsRefused}
+use Rattle.import_graph.specs.Graph.{AreModules, names_of, uses_of}
+use Rattle.import_graph.specs.Heads.{HasImports}
 use Rattle.module_made.specs.Made.{Value}
-use Rattle.module_walk.specs.Entry.{HasEntry}
-use Rattle.module_walk.specs.Modules.{Module}
-use Rattle.module_walk.specs.View.{setting}
-use Rattle.project_build.specs.Modules.{Part, AreCoreModules, core_names, parts_of, number_of}
-use Rattle.project_build.specs.Outcomes.{Outcome, Stopped, Faulty, Text, IsLinked, IsFinished, IsCompiled, linked_parts}
-use Rattle.project_build.specs.Outcomes.{faults_of, Builds, refused, compiles, ProjectBuilds, Clean, is_output}
-use Rattle.project_build.specs.Outcomes.{start_fault}
+use Rattle.import_graph.specs.Entry.{HasEntry}
+use Rattle.import_graph.specs.Modules.{Module}
+use Rattle.import_graph.specs.ModuleWalkView.{setting}
+use Rattle.project_parts.specs.Modules.{Part, AreCoreModules, core_names, parts_of, number_of}
+use Rattle.project_parts.specs.Outcomes.{Outcome, Stopped, Faulty, Text, IsLinked, IsFinished, IsCompiled, linked_parts}
+use Rattle.project_parts.specs.Outcomes.{faults_of, Builds, refused, compiles, ProjectBuilds, Clean, is_output}
+use Rattle.project_parts.specs.Outcomes.{start_fault}
 use Rattle.project_file.specs.Paths.{normal_path, is_absolute}
 use Rattle.project_file.specs.View.{directories_of}
 use Rattle.project_file.specs.declared.project.Project.{Project}
-use Rattle.build_once.specs.Once.{OneOutcome}
+use Rattle.project_proper.specs.BuildOnce.{OneOutcome}
 use Rattle.elm_make.specs.Counts.{HasModules, Counts, OneCount}
 use Rattle.elm_make.specs.End.{HasOutcome, HasCount}
 use Rattle.elm_make.specs.Steps.{Holds, IsTold, IsStopped}

@@ -1,14 +1,14 @@
 -- The modules of a project are counted once.
 use Rattle.std.proofs.Common.{◌≡◌, ℕ, List, Option, Some, length, sym, ap, ◌∙◌, subst}
 use Rattle.elm_files.specs.Tree.{Tree}
-use Rattle.module_graph.specs.Graph.{AreModules}
-use Rattle.module_graph.specs.Laws.{IsDetermined}
-use Rattle.module_graph.proofs.OneList.{one_list}
-use Rattle.module_heads.specs.Heads.{HasImports}
-use Rattle.module_walk.specs.Modules.{Setting}
+use Rattle.import_graph.specs.Graph.{AreModules}
+use Rattle.import_graph.specs.Laws.{IsDetermined}
+use Rattle.import_graph.proofs.OneList.{one_list}
+use Rattle.import_graph.specs.Heads.{HasImports}
+use Rattle.import_graph.specs.Modules.{Setting}
 use Rattle.project_file.specs.Project.{directories, project_of}
-use Rattle.project_build.specs.Modules.{core_names}
-use Rattle.project_build.specs.Outcomes.{Stopped, Faulty, Text}
+use Rattle.project_parts.specs.Modules.{core_names}
+use Rattle.project_parts.specs.Outcomes.{Stopped, Faulty, Text}
 use Rattle.elm_make.specs.Counts.{HasModules, OneCount}
 
 same_bytes : (o : Option (List ℕ)) (bytes others : List ℕ) → o ≡ Some bytes → o ≡ Some others → bytes ≡ others

@@ -4,7 +4,7 @@ use Rattle.std.specs.Prelude.{codes, decimal}
 use Rattle.std.proofs.lemmas.List.{take_more, flat_map_more}
 use Rattle.elm_base.specs.Fault.{fault_line_of}
 use Rattle.elm_base.specs.declared.fault.Fault.{Fault}
-use Rattle.project_build.specs.Outcomes.{fault_lines, compiled_line}
+use Rattle.project_parts.specs.Outcomes.{fault_lines, compiled_line}
 
 pub lines_more : (fs : List Fault) (i : ℕ) (d : Fault) → i < length fs
     → fault_lines (take i fs) ++ fault_line_of (get_or fs i d) ≡ fault_lines (take (i + 1) fs)

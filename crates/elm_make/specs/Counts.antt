@@ -1,12 +1,12 @@
 -- How many modules of its project a build compiles.
 use Rattle.std.specs.Prelude.{◌≡◌, ℕ, List, Some, length, codes}
 use Rattle.elm_files.specs.Tree.{Tree}
-use Rattle.module_graph.specs.Graph.{AreModules}
-use Rattle.module_heads.specs.Heads.{HasImports}
-use Rattle.module_walk.specs.Modules.{Module}
+use Rattle.import_graph.specs.Graph.{AreModules}
+use Rattle.import_graph.specs.Heads.{HasImports}
+use Rattle.import_graph.specs.Modules.{Module}
 use Rattle.project_file.specs.Project.{directories, project_of}
-use Rattle.project_build.specs.Modules.{core_names}
-use Rattle.project_build.specs.Outcomes.{Outcome, Stopped, Faulty, Text}
+use Rattle.project_parts.specs.Modules.{core_names}
+use Rattle.project_parts.specs.Outcomes.{Outcome, Stopped, Faulty, Text}
 
 -- the entry that is written so reaches this many modules of the project; those of the core library do not count
 pub record HasModules (tree : Tree) (written : List ℕ) (n : ℕ) : Type 0 where

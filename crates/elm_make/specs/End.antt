@@ -5,7 +5,7 @@ use Rattle.elm_files.specs.declared.outside.FileError.TheVariants.{Failed}
 use Rattle.elm_files.specs.declared.outside.FileError.TheVariants as no_memory
 use Rattle.elm_files.specs.States.{FilesState}
 use Rattle.elm_files.specs.Tree.{Tree, with_file, SameElsewhere}
-use Rattle.project_build.specs.Outcomes.{Outcome, Stopped, Faulty, Text, fault_lines, compiled_line}
+use Rattle.project_parts.specs.Outcomes.{Outcome, Stopped, Faulty, Text, fault_lines, compiled_line}
 use Rattle.elm_make.specs.Counts.{Counts}
 use Rattle.elm_make.specs.View.{outcome_view}
 use Rattle.elm_make.specs.declared.project.Built.{Built}

@@ -6,3 +6,11 @@ pub mod View
 pub mod End
 -- the steps of a build
 pub mod Steps
+-- what modules of the program compile to
+pub mod ProjectCompileView
+-- what lies on a desk
+pub mod Desks
+-- what a module is made to
+pub mod Making
+-- what a finished build is
+pub mod Outcome

@@ -2,7 +2,7 @@
 use Rattle.std.specs.Prelude.{◌≡◌, ℕ, List, Option, Some, IfOk, IfSome, Result, codes}
 use Rattle.elm_base.specs.declared.fault.Fault.{Fault}
 use Rattle.elm_files.specs.Tree.{Tree}
-use Rattle.project_build.specs.Outcomes.{Outcome, Stopped, Faulty, fault_lines}
+use Rattle.project_parts.specs.Outcomes.{Outcome, Stopped, Faulty, fault_lines}
 use Rattle.project_file.specs.Project.{directories, project_of}
 use Rattle.project_file.specs.View.{directories_of}
 use Rattle.project_file.specs.declared.project.Project.{Project}

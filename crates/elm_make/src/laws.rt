@@ -2,7 +2,7 @@
 
 ghost use Rattle.elm_make.specs.Counts.{OneCount};
 
-use module_heads::laws::imports_law;
+use import_graph::module_heads_laws::imports_law;
 
 /// A build of one outcome compiles one number of modules.
 pub fn count_law()

@@ -1,8 +1,8 @@
 //! The lines that a build prints.
 
 ghost use Rattle.std.specs.Prelude.{◌≡◌, IfOk};
-ghost use Rattle.project_build.specs.Outcomes as outcome;
-ghost use Rattle.project_build.specs.Outcomes.{compiled_line};
+ghost use Rattle.project_parts.specs.Outcomes as outcome;
+ghost use Rattle.project_parts.specs.Outcomes.{compiled_line};
 
 use elm_base::fault::{Code, Fault, fault_line};
 use elm_base::position::{Pos, Region};

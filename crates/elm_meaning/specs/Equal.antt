@@ -7,7 +7,7 @@ use Rattle.std.specs.Str.{bytes_eq}
 use Rattle.wire_value.specs.Wire as wire
 use Rattle.wire_value.specs.Wire.{Wire, no_wire, more_wires, no_member, more_members}
 use Rattle.runs.specs.Ends.{End, Val, Crashed, Stuck, then_do}
-use Rattle.meaning_base.specs.Numbers.{is_number}
+use Rattle.runs.specs.Numbers.{is_number}
 use Rattle.elm_canon.specs.Names.{Name, same_name}
 use Rattle.elm_canon.specs.declared.unions.Tag.{Tag}
 use Rattle.elm_meaning.specs.Values.{Value}

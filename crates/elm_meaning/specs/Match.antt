@@ -3,7 +3,7 @@
 use Rattle.std.specs.Prelude.{List, [], ◌∷◌, Bool, false, if◌then◌else◌, ◌&&◌, ◌||◌, ◌==◌, Option, Some, None}
 use Rattle.std.specs.Str.{bytes_eq}
 use Rattle.runs.specs.Ends.{End, Val, Crashed, OutOfFuel, Unsafe, Stuck, then_do}
-use Rattle.meaning_base.specs.Numbers.{is_number}
+use Rattle.runs.specs.Numbers.{is_number}
 use Rattle.elm_canon.specs.Names.{Name}
 use Rattle.elm_canon.specs.declared.reference.Ref.TheVariants.{Local}
 use Rattle.elm_canon.specs.declared.unions.Tag.{Tag}

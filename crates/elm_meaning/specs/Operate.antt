@@ -4,7 +4,7 @@ use Rattle.std.specs.Prelude.{ℤ, ◌++◌, Bool, not}
 use Rattle.std.specs.declared.cmp.Ordering.{Ordering}
 use Rattle.std.specs.Ordering.{is_lt, is_gt, is_le, is_ge}
 use Rattle.runs.specs.Ends.{End, Val, Stuck, then_do}
-use Rattle.meaning_base.specs.Numbers.{add, subtract, multiply, negate, quotient}
+use Rattle.runs.specs.Numbers.{add, subtract, multiply, negate, quotient}
 use Rattle.elm_canon.specs.declared.unions.Tag.{Tag}
 use Rattle.elm_canon.specs.declared.unions.Tag.TheVariants.{Number}
 use Rattle.elm_canon.specs.declared.tree.Operator.{Operator}

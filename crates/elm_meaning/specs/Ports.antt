@@ -7,7 +7,7 @@ use Rattle.wire_value.specs.Wire as wire
 use Rattle.wire_value.specs.Wire.{Wire, no_wire, more_wires, no_member, more_members}
 use Rattle.wire_value.specs.Exact.{is_exact}
 use Rattle.runs.specs.Ends.{End, Val, Stuck, then_do}
-use Rattle.meaning_base.specs.Members.{put_wire}
+use Rattle.runs.specs.Members.{put_wire}
 use Rattle.elm_canon.specs.Names.{Name, same_name}
 use Rattle.elm_canon.specs.declared.unions.Tag.TheVariants.{Number, Truth, Blank}
 use Rattle.elm_canon.specs.Tree.{Payload, IntPayload, BoolPayload, TextPayload, MaybePayload, ListPayload, TuplePayload}

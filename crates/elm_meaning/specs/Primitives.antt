@@ -2,9 +2,9 @@
 -- Debug, Basics, Bitwise, String, Char, Platform.Cmd, Platform.Sub.) Values of another kind have no rule.
 use Rattle.std.specs.Prelude.{ℤ, pos, length, if◌then◌else◌, ◌==◌}
 use Rattle.runs.specs.Ends.{End, Val, Crashed, Stuck, then_do}
-use Rattle.meaning_base.specs.Numbers.{remainder, modulo, and_bits, or_bits, xor_bits, not_bits, shift_left, shift_right}
-use Rattle.meaning_base.specs.Numbers.{shift_right_zero, number_text}
-use Rattle.meaning_base.specs.Texts.{unit_at, slice, find_in, unit_of}
+use Rattle.runs.specs.Numbers.{remainder, modulo, and_bits, or_bits, xor_bits, not_bits, shift_left, shift_right}
+use Rattle.runs.specs.Numbers.{shift_right_zero, number_text}
+use Rattle.runs.specs.Texts.{unit_at, slice, find_in, unit_of}
 use Rattle.elm_canon.specs.Names.{Name}
 use Rattle.elm_canon.specs.declared.unions.Tag.TheVariants.{Number}
 use Rattle.elm_canon.specs.Tree.{Known, Maker, RecordMaker, OutPort, InPort}

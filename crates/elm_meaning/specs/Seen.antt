@@ -3,7 +3,7 @@
 use Rattle.std.specs.Prelude.{ℕ, zero, suc, ℤ, pos, negsuc, List, [], ◌∷◌, Bool, true, false, Option, Some, None}
 use Rattle.std.specs.Prelude.{option_and_then}
 use Rattle.wire_value.specs.Wire.{Wire}
-use Rattle.meaning_base.specs.Numbers.{is_number}
+use Rattle.runs.specs.Numbers.{is_number}
 use Rattle.elm_canon.specs.Names.{Name}
 use Rattle.elm_canon.specs.declared.unions.Tag.{Tag}
 use Rattle.elm_canon.specs.declared.unions.Tag.TheVariants.{Number, Truth, Blank}

@@ -2,7 +2,7 @@
 use Rattle.std.specs.Prelude.{ℕ, zero, suc, ℤ, pos, List, [], ◌∷◌, Bool, false, if◌then◌else◌, ◌||◌}
 use Rattle.wire_value.specs.Wire.{Wire}
 use Rattle.runs.specs.Ends.{End, Val, Stuck, then_do}
-use Rattle.meaning_base.specs.Texts.{units_lt}
+use Rattle.runs.specs.Texts.{units_lt}
 use Rattle.elm_canon.specs.Names.{Name, same_name}
 use Rattle.elm_canon.specs.declared.reference.Ref.{Ref}
 use Rattle.elm_canon.specs.declared.unions.Tag.{Tag}

@@ -17,8 +17,8 @@ use Rattle.parse_machine.specs.declared.table.Token as machine
 use Rattle.parse_machine.specs.Grammar.{Production, IsReading, IsFront, IsFaultAt, IsRefused}
 use Rattle.elm_grammar.specs.Classes.{classed, classed_from, class_by, other}
 use Rattle.elm_grammar.specs.Table.{elm, nonterminals}
-use Rattle.elm_faults.specs.Standing.{Finding, Finds}
-use Rattle.elm_faults.specs.Reading.{Faulty, early, syntax_at, FrontFaulty}
+use Rattle.elm_parser.specs.Standing.{Finding, Finds}
+use Rattle.elm_parser.specs.Reading.{Faulty, early, syntax_at, FrontFaulty}
 use Rattle.elm_parser.specs.Reported.{or_syntax}
 use Rattle.elm_parser.specs.Steps.{HasFrontSteps}
 use Rattle.elm_parser.proofs.Fronts.{reading_front, front_front}

@@ -9,12 +9,12 @@ use Rattle.elm_lexer.specs.Tokens.{Token}
 use Rattle.parse_machine.specs.declared.table.Token as machine
 use Rattle.parse_machine.specs.Grammar.{Tree, leaf, word, node}
 use Rattle.elm_grammar.specs.Classes as class
-use Rattle.elm_faults.specs.Faults.{Decided, Level, fault_if, lone, is_one_of, openers, operators, greatest_depth}
-use Rattle.elm_faults.specs.Faults.{most_operators, most_commas, clashes, at_token, same_name, annotates, first_of}
-use Rattle.elm_faults.specs.Faults.{by_name, is_named, is_of, entries, ends, is_empty, after_annotation, at_production}
-use Rattle.elm_faults.specs.Faults.{faults_in, faults_of, outermost, read, below, passed}
-use Rattle.elm_faults.specs.Standing.{Finding, Stands, early, at_end, number_of}
-use Rattle.elm_faults.proofs.Prefix.{none_in, only_in}
+use Rattle.elm_parser.specs.Faults.{Decided, Level, fault_if, lone, is_one_of, openers, operators, greatest_depth}
+use Rattle.elm_parser.specs.Faults.{most_operators, most_commas, clashes, at_token, same_name, annotates, first_of}
+use Rattle.elm_parser.specs.Faults.{by_name, is_named, is_of, entries, ends, is_empty, after_annotation, at_production}
+use Rattle.elm_parser.specs.Faults.{faults_in, faults_of, outermost, read, below, passed}
+use Rattle.elm_parser.specs.Standing.{Finding, Stands, early, at_end, number_of}
+use Rattle.elm_parser.proofs.Prefix.{none_in, only_in}
 
 abbrev pub code_of : ℕ → Code
 code_of n =

@@ -17,8 +17,8 @@ use Rattle.elm_grammar.specs.Values.{Kind, One, Thing}
 use Rattle.elm_grammar.specs.declared.action.Item.TheVariants as item
 use Rattle.elm_grammar.specs.Meaning.{Means, none, ◌⸴◌}
 use Rattle.elm_grammar.proofs.Found.{one_value}
-use Rattle.elm_faults.specs.Standing.{Finding, Stands, NotAfter, number_of, IsFirst}
-use Rattle.elm_faults.specs.Reading.{Reads, Faulty, early, syntax_at, ReadsFront, FrontFaulty, ReadsModule}
+use Rattle.elm_parser.specs.Standing.{Finding, Stands, NotAfter, number_of, IsFirst}
+use Rattle.elm_parser.specs.Reading.{Reads, Faulty, early, syntax_at, ReadsFront, FrontFaulty, ReadsModule}
 use Rattle.elm_parser.specs.Laws.{OneOrOther, OneOrOtherFront, OneOrOtherText}
 use Rattle.elm_parser.specs.Parsed.{IsText, HasTextFault, of_text, of_tokens, ModuleFault}
 use Rattle.elm_parser.specs.Reported.{reported, IsReported}

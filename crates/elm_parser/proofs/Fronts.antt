@@ -7,7 +7,7 @@ use Rattle.parse_machine.specs.declared.table.Step.{Step}
 use Rattle.parse_machine.specs.declared.table.Token.{Token}
 use Rattle.parse_machine.specs.Grammar.{Tree, Spells, IsViable, IsLongest, IsReading, IsFront}
 use Rattle.elm_grammar.specs.Table.{elm}
-use Rattle.elm_faults.proofs.Standings.{Compared, compared}
+use Rattle.elm_parser.proofs.Standings.{Compared, compared}
 
 further : (n c : ℕ) (front other z : List Token) (u : Token) → other ≡ front ++ u ∷ z →
     IsViable elm (Part n ∷ []) c other → IsViable elm (Part n ∷ []) c (front ++ u ∷ [])

@@ -12,8 +12,8 @@ use Rattle.parse_machine.proofs.Opening.{Good, good_call}
 use Rattle.parse_machine.proofs.Planning.{planned-is}
 use Rattle.parse_machine.proofs.Selection.{selects, same_production}
 use Rattle.elm_grammar.specs.Table.{elm}
-use Rattle.elm_faults.proofs.Agreeing.{second, second_word, second_closed, same_choice}
-use Rattle.elm_faults.proofs.Standings.{ready}
+use Rattle.elm_parser.proofs.Agreeing.{second, second_word, second_closed, same_choice}
+use Rattle.elm_parser.proofs.Standings.{ready}
 
 none_read : (g : List Production) (ys : List Tree) (us : List Token) → Reads g [] ys us → [] ≡ ys
 none_read g _ _ finished = refl

@@ -14,7 +14,7 @@ use Rattle.elm_grammar.specs.declared.action.Item.TheVariants as item
 use Rattle.elm_grammar.specs.Meaning.{Things, none, ◌⸴◌, Means, Spells}
 use Rattle.elm_grammar.proofs.Sense.{has_meaning}
 use Rattle.elm_values.specs.Building.{Builds}
-use Rattle.elm_faults.specs.Reading.{Reads, ReadsFront}
+use Rattle.elm_parser.specs.Reading.{Reads, ReadsFront}
 use Rattle.elm_parser.specs.Steps.{HasSteps, HasFrontSteps}
 
 -- ---- the kinds of the readers

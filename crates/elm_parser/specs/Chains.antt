@@ -6,7 +6,7 @@ use Rattle.elm_tree.specs.declared.tree.Word.{Word}
 use Rattle.elm_tree.specs.Regroup.{Turn, turns}
 use Rattle.elm_tree.specs.Turns.{BeginsWith, clashes}
 use Rattle.elm_tree.specs.View.{words_view}
-use Rattle.elm_faults.specs.Faults.{most_operators}
+use Rattle.elm_parser.specs.Faults.{most_operators}
 use Rattle.elm_parser.specs.Reported.{reported}
 
 -- the operators are not too many, no two of them clash, and these are their turns

@@ -5,8 +5,8 @@ use Rattle.elm_tree.specs.Tree as tree
 use Rattle.parse_machine.specs.declared.table.Token as machine
 use Rattle.elm_grammar.specs.Table.{nonterminals}
 use Rattle.elm_grammar.specs.Values.{Kind, Thing}
-use Rattle.elm_faults.specs.Standing.{Finding}
-use Rattle.elm_faults.specs.Reading.{Reads, Faulty, ReadsFront, FrontFaulty}
+use Rattle.elm_parser.specs.Standing.{Finding}
+use Rattle.elm_parser.specs.Reading.{Reads, Faulty, ReadsFront, FrontFaulty}
 use Rattle.elm_parser.specs.Parsed.{IsText, HasTextFault}
 
 -- one tree or one fault, and not both

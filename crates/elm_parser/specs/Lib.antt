@@ -3,3 +3,8 @@ pub mod Steps
 pub mod Parsed
 pub mod Chains
 pub mod Laws
+pub mod Faults
+pub mod Standing
+pub mod Reading
+pub mod Scan
+pub mod Examples

@@ -5,8 +5,8 @@ use Rattle.elm_tree.specs.Tree as tree
 use Rattle.parse_machine.specs.declared.table.Token as machine
 use Rattle.elm_grammar.specs.Classes.{classed}
 use Rattle.elm_grammar.specs.Table as table
-use Rattle.elm_faults.specs.Standing.{Finding}
-use Rattle.elm_faults.specs.Reading.{BeginsPort, Faulty, FrontFaulty, ReadsModule}
+use Rattle.elm_parser.specs.Standing.{Finding}
+use Rattle.elm_parser.specs.Reading.{BeginsPort, Faulty, FrontFaulty, ReadsModule}
 use Rattle.elm_parser.specs.Reported.{IsReported}
 
 -- the tokens that are left are the last ones, as many as some rest of which this holds

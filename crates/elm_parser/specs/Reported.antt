@@ -4,7 +4,7 @@ use Rattle.elm_base.specs.declared.fault.Code.{Code}
 use Rattle.elm_base.specs.declared.fault.Code.TheVariants.{Syntax, MixedOperators, LoneAnnotation}
 use Rattle.elm_lexer.specs.Tokens.{Token, Place, Fault}
 use Rattle.elm_tree.specs.Words.{no_token, token_at}
-use Rattle.elm_faults.specs.Standing.{Finding}
+use Rattle.elm_parser.specs.Standing.{Finding}
 
 -- the end of a text, as a token
 abbrev pub end_token : Place → Token

@@ -7,7 +7,7 @@ use Rattle.parse_machine.specs.declared.table.Token as machine
 use Rattle.parse_machine.specs.Grammar.{IsReading, IsFront}
 use Rattle.elm_grammar.specs.Classes.{classed}
 use Rattle.elm_grammar.specs.Table.{elm}
-use Rattle.elm_faults.specs.Standing.{IsClean}
+use Rattle.elm_parser.specs.Standing.{IsClean}
 
 -- of all of the tokens
 abbrev pub HasSteps : List Token → ℕ → ℕ → List Step → Type 0

@@ -8,9 +8,9 @@ ghost use Rattle.elm_tree.specs.View.{words_view};
 ghost use Rattle.elm_parser.specs.Chains.{ChainFault, IsChain, IsMixed};
 
 use crate::fault::fault_of;
+use crate::finding::Finding;
 use elm_base::fault::Code;
 use elm_base::position::Pos;
-use elm_faults::finding::Finding;
 use elm_lexer::error::TextError;
 use elm_lexer::token::Token;
 use elm_tree::tree::Word;

@@ -2,12 +2,12 @@
 
 ghost use Rattle.std.specs.Prelude.{◌≡◌, map};
 ghost use Rattle.elm_lexer.specs.View.{token_view, place_view, fault_view};
-ghost use Rattle.elm_faults.specs.Scan.{finding_view};
+ghost use Rattle.elm_parser.specs.Scan.{finding_view};
 ghost use Rattle.elm_parser.specs.Reported.{detail_of, place_at, reported};
 
+use crate::finding::Finding;
 use elm_base::fault::Code;
 use elm_base::position::Pos;
-use elm_faults::finding::Finding;
 use elm_lexer::error::TextFault;
 use elm_lexer::token::Token;
 use elm_tree::tree::Word;

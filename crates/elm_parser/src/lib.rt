@@ -3,10 +3,16 @@
 #![tactic(auto)]
 
 mod chain;
+pub mod elm_faults_laws;
 mod fault;
+pub mod faults;
+pub mod finding;
 pub mod laws;
+pub mod level;
 mod parser;
+mod production;
 mod reading;
+pub mod scan;
 mod text;
 
 pub use chain::regroup;

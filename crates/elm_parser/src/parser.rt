@@ -4,7 +4,7 @@ ghost use Rattle.std.specs.Prelude.{◌≡◌, ◌↔◌, ◌^◌, ◌<◌, leng
 ghost use Rattle.elm_lexer.specs.View.{token_view, place_view, IfFault};
 ghost use Rattle.elm_tree.specs.View.{expr_view, head_view, module_view, type_view};
 ghost use Rattle.elm_values.specs.Stack.{begun_view};
-ghost use Rattle.elm_faults.specs.Reading.{BeginsPort, ReadsModule, ReadsHead, ReadsType, ReadsPattern, ReadsExpr};
+ghost use Rattle.elm_parser.specs.Reading.{BeginsPort, ReadsModule, ReadsHead, ReadsType, ReadsPattern, ReadsExpr};
 ghost use Rattle.elm_parser.specs.Parsed.{ModuleFault, HeadFault, TypeFault, PatternFault, ExprFault, LeavesRest};
 
 use crate::reading::{front, whole};

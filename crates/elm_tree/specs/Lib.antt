@@ -4,3 +4,4 @@ pub mod View
 pub mod Regroup
 pub mod Turns
 pub mod Examples
+pub mod Written

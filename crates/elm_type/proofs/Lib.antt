@@ -10,3 +10,16 @@ pub mod Places
 pub mod ByNodes
 -- what is written is read again
 pub mod Reading
+pub mod Counting
+pub mod Halving
+-- names that are given in turn
+pub mod Names
+-- a walk over the nodes of a type
+pub mod Walking
+-- frames
+pub mod Framing
+mod EveryKind
+-- names in ascending order
+pub mod Ascending
+-- what insertion gives
+pub mod Inserted

@@ -8,3 +8,12 @@ pub mod Classes
 pub mod Heads
 pub mod Rows
 pub mod Examples
+pub mod Parts
+pub mod Naming
+pub mod Text
+pub mod Frames
+pub mod Used
+pub mod ElmTypeTextExamples
+pub mod Ground
+-- the fields that variables lack, in order
+pub mod Order

@@ -3,7 +3,7 @@
 ghost use Rattle.std.specs.Prelude.{◌≡◌};
 ghost use Rattle.std.specs.Str.{bytes_eq};
 
-use elm_names::name::Name;
+use elm_base::names::Name;
 
 /// Whether the name `name` is the text `text`, which is in ASCII.
 pub fn is_text(name: &Name, text: &[u8]) -> bool

@@ -8,7 +8,7 @@ ghost use Rattle.elm_type.specs.View.{type_view, field_view, fields_of, end_view
 use crate::head::Head;
 use crate::node::{Leaf, Node};
 use crate::ty::Ty;
-use elm_names::name::Name;
+use elm_base::names::Name;
 use std::alloc::{AllocError, Global};
 
 /// The name of a field, and its type.

@@ -7,7 +7,7 @@ use crate::head::Head;
 use crate::node::{Leaf, Node};
 use crate::rigid::Rigid;
 use crate::ty::Ty;
-use elm_names::name::Name;
+use elm_base::names::Name;
 
 /// Whether two names are the same.
 fn same_name(first: &Name, second: &Name) -> bool

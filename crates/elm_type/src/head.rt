@@ -2,7 +2,7 @@
 
 ghost use Rattle.std.specs.Prelude.{◌≡◌, IfOk};
 
-use elm_names::name::Name;
+use elm_base::names::Name;
 use std::alloc::AllocError;
 
 /// What makes a type of its parts.

@@ -4,7 +4,7 @@ ghost use Rattle.std.specs.Prelude.{◌≡◌, IfOk};
 
 use crate::head::Head;
 use crate::rigid::Rigid;
-use elm_names::name::Name;
+use elm_base::names::Name;
 use std::alloc::AllocError;
 
 /// A variable, or a rigid constant.

@@ -12,7 +12,7 @@ use crate::class::Class;
 use crate::node::{Leaf, Node};
 use crate::scheme::{Kind, Scheme};
 use crate::ty::Ty;
-use elm_names::name::Name;
+use elm_base::names::Name;
 use std::alloc::{AllocError, Global};
 use std::collections::HashMap;
 

@@ -2,7 +2,7 @@
 
 use crate::class::Class;
 use crate::ty::Ty;
-use elm_names::name::Name;
+use elm_base::names::Name;
 
 /// What a variable may stand for: the types of a class. Where it lacks fields, it stands for records without these.
 #[derive(Drop)]

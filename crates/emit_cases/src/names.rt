@@ -2,7 +2,7 @@
 
 ghost use Rattle.std.specs.Prelude.{map};
 ghost use Rattle.elm_lexer.specs.View.{token_view};
-ghost use Rattle.canon_pattern.specs.Literals.{AreLiterals};
+ghost use Rattle.canon_expr.specs.Literals.{AreLiterals};
 
 use canon_env::env::Known;
 use canon_env::exposing::Written;
@@ -11,10 +11,10 @@ use canon_env::import::Import;
 use canon_env::shown::Shown;
 use canon_module::module::{Resolved, Setting, resolve};
 use elm_base::fault::{Code, Fault, fault_line};
+use elm_base::names::Name;
 use elm_base::position::{Pos, Region};
 use elm_base::text::Text;
 use elm_canon::tree::UnionDeclaration;
-use elm_names::name::Name;
 use elm_parser::Parsed;
 use indexmap::IndexMap;
 use std::alloc::{AllocError, Global};

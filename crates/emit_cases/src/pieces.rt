@@ -1,14 +1,14 @@
 //! The texts of declarations, and what the line of `_main` is made of.
 
 use crate::primitives::{is_text, primitive};
+use elm_base::names::Name;
 use elm_canon::reference::Ref;
 use elm_canon::tree::{Annotation, Declaration, Group, Module, Title};
-use elm_names::name::Name;
 use emit_program::declarations::CoreName;
-use emit_text::lines::{core_name_text, declaration_text, flags_text};
-use emit_text::main_line::main_line;
-use emit_text::output::join;
-use emit_text::ports::{InPort, push_port};
+use emit_program::emit_text_ports::{InPort, push_port};
+use emit_program::lines::{core_name_text, declaration_text, flags_text};
+use emit_program::main_line::main_line;
+use emit_program::output::join;
 use port_payload::payload::payload_of;
 use std::alloc::{AllocError, Global};
 use std::mem;

@@ -1,8 +1,8 @@
 //! The functions of core that no text can say.
 
+use elm_base::names::Name;
 use elm_canon::reference::Ref;
-use elm_names::name::Name;
-use emit_operators::bodiless::Primitive;
+use js_emit::bodiless::Primitive;
 use std::alloc::{AllocError, Global};
 
 /// Each with its module and its name.

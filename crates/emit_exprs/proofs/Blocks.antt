@@ -6,7 +6,7 @@ use Rattle.elm_canon.specs.Tree as source
 use Rattle.elm_canon.specs.Tree.{Patterns, NoPattern, MorePattern, Expr, Exprs, Apply, Is, NameOf, Accessor, Lambda, Strict}
 use Rattle.elm_canon.specs.Tree.{Logical, Case, Located, Branches, NoBranch, MoreBranch, Groups, NoGroup, MoreGroup, Group}
 use Rattle.elm_canon.specs.Tree.{Together, Constant, Destructure, Functions, NoFunction, MoreFunction}
-use Rattle.elm_proper.specs.Proper.{count_of}
+use Rattle.elm_canon.specs.Proper.{count_of}
 use Rattle.js_tree.specs.Tree.{Name, Made, Js, JBlock, Stmts, Const, While}
 use Rattle.js_tree.specs.Postorder.{Tree, StatementsOf, ConstThen, Before}
 use Rattle.js_tree.specs.Postorder.{statements, statements_then, top}
@@ -17,8 +17,8 @@ use Rattle.js_emit.specs.Loops.{Loop, Outside, Inside, is_call, lets, turn}
 use Rattle.js_emit.specs.Made.{is_loop, loop_of, made_in, made_all, made_round, made_loop, made_function, made_choice}
 use Rattle.js_emit.specs.Made.{made_branches, made_groups}
 use Rattle.js_emit.specs.Emit.{emit, looped, function, groups, chosen, bodies}
-use Rattle.tail_loops.proofs.Steps.{count_made}
-use Rattle.emit_frames.specs.Frames.{Grown, has_constant}
+use Rattle.emit_exprs.proofs.Steps.{count_made}
+use Rattle.emit_exprs.specs.Frames.{Grown, has_constant}
 use Rattle.emit_exprs.specs.Chains.{value}
 
 -- ---- statements that go on

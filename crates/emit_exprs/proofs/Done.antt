@@ -14,8 +14,8 @@ use Rattle.js_emit.specs.Operators.{perform_js, connective_js}
 use Rattle.js_emit.specs.Loops.{Loop, Outside, variables, goes_round}
 use Rattle.js_emit.specs.Made.{made_in, made_all, made_round}
 use Rattle.js_emit.specs.Emit.{emit, values, calls, go_round}
-use Rattle.emit_operators.specs.Parts.{with_parts}
-use Rattle.emit_frames.specs.Frames.{properties}
+use Rattle.js_emit.specs.Parts.{with_parts}
+use Rattle.emit_exprs.specs.Frames.{properties}
 use Rattle.emit_exprs.specs.Chains.{value, placed, made_before, before, made_before_all, before_all}
 use Rattle.emit_exprs.proofs.Lists.{made_all_next, calls_next, values_next, placed_whole}
 

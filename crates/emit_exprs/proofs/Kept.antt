@@ -14,7 +14,7 @@ use Rattle.js_emit.specs.Patterns.{arrows}
 use Rattle.js_emit.specs.Loops.{Loop, Outside}
 use Rattle.js_emit.specs.Made.{made_in}
 use Rattle.js_emit.specs.Emit.{emit}
-use Rattle.tail_loops.proofs.Forms.{seen}
+use Rattle.emit_exprs.proofs.Forms.{seen}
 use Rattle.emit_exprs.specs.Chains.{value, made_before_all, before_all}
 
 pub always : {T E P : Type 0} (r : Result T E) → P → OnOk r P

@@ -10,8 +10,8 @@ use Rattle.js_emit.specs.Loops.{Loop, Outside}
 use Rattle.js_emit.specs.Made.{made_in, made_all, made_round, made_groups, made_group, made_functions}
 use Rattle.js_emit.specs.Made.{made_branches}
 use Rattle.js_emit.specs.Emit.{emit, values, calls, groups, group, functions, bodies}
-use Rattle.emit_operators.specs.Parts.{count_items}
-use Rattle.emit_frames.specs.Frames.{test, tested}
+use Rattle.js_emit.specs.Parts.{count_items}
+use Rattle.emit_exprs.specs.Frames.{test, tested}
 use Rattle.emit_exprs.specs.Chains.{value, placed, function_at, made_by}
 
 -- ---- expressions

@@ -6,14 +6,14 @@ use Rattle.std.proofs.lemmas.Bool.{eqb-true}
 use Rattle.elm_canon.specs.Tree.{Expr, Exprs, MoreExpr, NoExpr, exprs_of}
 use Rattle.elm_canon.specs.View as view
 use Rattle.elm_canon.specs.View.{LinkView, Given, Composed, After, Decided, done}
-use Rattle.elm_proper.specs.Proper.{count_exprs}
+use Rattle.elm_canon.specs.Proper.{count_exprs}
 use Rattle.js_tree.specs.Tree.{Name, Made, Js, Const, Return}
 use Rattle.js_tree.specs.Postorder.{Tree, Expression, BlockOf, StatementsOf, ConstThen, Before, statements_then}
 use Rattle.js_emit.specs.Loops.{Loop, Outside, Inside, variables, is_name, goes_round, assigns}
 use Rattle.js_emit.specs.Made.{made_in, made_round}
 use Rattle.js_emit.specs.Emit.{emit, go_round}
-use Rattle.tail_loops.proofs.Steps.{count_with}
-use Rattle.emit_frames.specs.Frames.{pairs}
+use Rattle.emit_exprs.proofs.Steps.{count_with}
+use Rattle.emit_exprs.specs.Frames.{pairs}
 use Rattle.emit_exprs.specs.Chains.{value, turn_before, turn_after, turns_by}
 use Rattle.emit_exprs.proofs.Done.{call_returns, call_same, call_turns, call_rounds}
 

@@ -8,7 +8,7 @@ use Rattle.js_emit.specs.Names.{now}
 use Rattle.js_emit.specs.Loops.{Loop, Outside, goes_round}
 use Rattle.js_emit.specs.Made.{made_in, made_all, made_function}
 use Rattle.js_emit.specs.Emit.{emit, values, calls, function}
-use Rattle.emit_operators.specs.Parts.{with_parts}
+use Rattle.js_emit.specs.Parts.{with_parts}
 
 -- where an expression is wanted
 abbrev pub value : ℕ → Expr → Js

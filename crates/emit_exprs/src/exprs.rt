@@ -19,28 +19,28 @@ ghost use Rattle.js_emit.specs.Made.{made_in, made_all, made_round, made_choice,
 ghost use Rattle.js_emit.specs.Made.{made_group};
 ghost use Rattle.js_emit.specs.Emit as spec;
 ghost use Rattle.js_emit.specs.Emit.{emit, values, calls, bodies, chosen, numbered, groups, group};
-ghost use Rattle.tail_loops.specs.Turns.{loop_view};
-ghost use Rattle.emit_operators.specs.Parts.{with_parts};
-ghost use Rattle.emit_frames.specs.Frames.{Grown, pairs};
+ghost use Rattle.emit_exprs.specs.Turns.{loop_view};
+ghost use Rattle.js_emit.specs.Parts.{with_parts};
+ghost use Rattle.emit_exprs.specs.Frames.{Grown, pairs};
 ghost use Rattle.emit_exprs.specs.Chains.{value, placed, before, before_all, made_before, made_before_all, function_at};
 ghost use Rattle.emit_exprs.specs.Chains.{made_by, turn_before, turn_after, turns_by};
 
+use crate::branches::{begin_choice, end_tests, push_test};
+use crate::emit_frames_loops::{begin_loop, end_loop};
+use crate::emit_frames_turns::{end_turn, keep_value};
+use crate::functions::{has_constant, push_accessor, push_properties};
+use crate::loops::{Loop, goes_round, loop_of};
+use crate::made::next_made;
+use crate::turns::is_loop;
+use decision_tree::bound::push_consts;
+use decision_tree::parameters::{begin_arrows, end_arrows};
 use elm_canon::tree::{Branch, Expr, Function, Group, Link, Op, Pattern};
-use emit_frames::branches::{begin_choice, end_tests, push_test};
-use emit_frames::functions::{has_constant, push_accessor, push_properties};
-use emit_frames::loops::{begin_loop, end_loop};
-use emit_frames::made::next_made;
-use emit_frames::turns::{end_turn, keep_value};
-use emit_names::names::js_name;
-use emit_names::push::{push_literal, push_name};
-use emit_operators::parts::{add_part, begin_op, end_op, js_connective};
-use emit_patterns::bound::push_consts;
-use emit_patterns::parameters::{begin_arrows, end_arrows};
+use js_emit::names::js_name;
+use js_emit::parts::{add_part, begin_op, end_op, js_connective};
+use js_emit::push::{push_literal, push_name};
 use js_tree::tree::{Name, Node};
 use js_tree::trees::Trees;
 use std::alloc::{AllocError, Global};
-use tail_loops::loops::{Loop, goes_round, loop_of};
-use tail_loops::turns::is_loop;
 
 /// Begins statements with a constant. The result is the number of its made name.
 fn begin_constant(trees: &mut Trees, made: &mut u64) -> Result<u64, AllocError>

@@ -2,8 +2,8 @@
 use Rattle.std.proofs.Common.{◌≡◌, ℕ, suc, ℤ, pos, negsuc, List, [], ◌∷◌, refl, ap, ◌∙◌}
 use Rattle.std.specs.Prelude.{if◌then◌else◌, ◌||◌, ◌&&◌, ◌==◌, nat_lt, bit_and, bit_or, bit_xor, length, drop, take, ◌-◌, ◌*◌, ◌%◌, ◌/◌, ◌^◌, Some, Option, None}
 use Rattle.std.specs.Int.{int_div_euclid}
-use Rattle.meaning_base.specs.Numbers as source
-use Rattle.meaning_base.specs.Texts as source_texts
+use Rattle.runs.specs.Numbers as source
+use Rattle.runs.specs.Texts as source_texts
 use Rattle.js_meaning.specs.Numbers as js
 use Rattle.js_meaning.specs.Texts as js_texts
 use Rattle.js_meaning.specs.Lists as lists

@@ -14,8 +14,8 @@ use Rattle.elm_canon.specs.declared.unions.Tag.TheVariants.{Number, Truth, Blank
 use Rattle.elm_canon.specs.declared.unions.Alternative.{Alternative}
 use Rattle.elm_canon.specs.Unions.{Union, alternatives}
 use Rattle.elm_canon.specs.Tree.{Pattern, Anything, Named, As, Exactly, Construct, FieldsOf, LocatedPattern, Patterns, NoPattern, MorePattern}
-use Rattle.elm_proper.specs.Constructors.{same_kind, are_apart, is_one_of, is_constructor}
-use Rattle.elm_proper.specs.Proper.{Scope, among, AreFresh, with_all, locals, bound_by, all_bound_by, ProperPattern, ProperPatterns}
+use Rattle.elm_canon.specs.Constructors.{same_kind, are_apart, is_one_of, is_constructor}
+use Rattle.elm_canon.specs.Proper.{Scope, among, AreFresh, with_all, locals, bound_by, all_bound_by, ProperPattern, ProperPatterns}
 use Rattle.elm_meaning.specs.Values.{Value, IntV, TextV, TagV, RecordV, CloV, KnownV, WireV, Values, NoValue, MoreValue, FieldValues, Env, Bind, field_in}
 use Rattle.elm_meaning.specs.Values as values
 use Rattle.elm_meaning.specs.Match.{is_literal, is_of, is_of_one, and_match, bind_fields, matches, matches_all}
@@ -26,15 +26,15 @@ use Rattle.js_meaning.specs.Lists.{part_name}
 use Rattle.js_meaning.specs.Eval.{JCallee, JLoop, JAgain, j_eval, j_exec}
 use Rattle.js_emit.specs.Names.{js_name}
 use Rattle.js_emit.specs.Patterns.{field_consts, consts, part_consts}
-use Rattle.emit_choice_laws.specs.For.{For, for_number, for_truth, for_blank, for_record, ForParts, more_part, ForField, no_field, one_field, ForEnv}
-use Rattle.emit_choice_laws.specs.Choosing.{IsNow}
+use Rattle.emit_laws.specs.For.{For, for_number, for_truth, for_blank, for_record, ForParts, more_part, ForField, no_field, one_field, ForEnv}
+use Rattle.emit_laws.specs.Choosing.{IsNow}
 use Rattle.emit_laws.proofs.Names.{Used, used, IsClear, IsBound, not_again, older, more_scope, const_extends, bound_after, clear_const, both_true}
 use Rattle.emit_laws.proofs.Clear.{fresh_front, with_front, clear_parts, clear_fields}
 use Rattle.emit_laws.proofs.Layers.{Above, Below, above_const}
 use Rattle.elm_meaning.specs.Envs.{lookup}
 use Rattle.emit_laws.proofs.Envs.{Keeps, for_bind, refs_apart, older_all}
-use Rattle.emit_choice_laws.proofs.Rows.{of_parts}
-use Rattle.emit_choice_laws.proofs.Trees.{part_apart}
+use Rattle.emit_laws.proofs.Rows.{of_parts}
+use Rattle.emit_laws.proofs.Trees.{part_apart}
 
 -- ---- paths
 

@@ -8,7 +8,7 @@ use Rattle.runs.specs.Pay.{Run, Follows, unclaimed_stuck}
 use Rattle.runs.proofs.Spends.{spends_same, follows_after}
 use Rattle.elm_canon.specs.declared.reference.Ref.{Ref}
 use Rattle.elm_canon.specs.Tree.{Pattern, Title, Expr, Case, Branches, NoBranch, MoreBranch, Groups, NoGroup, MoreGroup, Group, Together, Constant, Destructure, Functions, NoFunction, MoreFunction}
-use Rattle.elm_proper.specs.Proper.{Scope, among, AreFresh, with_all, bound_by, Binds, Proper, ProperBranches, ProperFunctions, ProperGroup, ProperGroups, function_names, group_names, after}
+use Rattle.elm_canon.specs.Proper.{Scope, among, AreFresh, with_all, bound_by, Binds, Proper, ProperBranches, ProperFunctions, ProperGroup, ProperGroups, function_names, group_names, after}
 use Rattle.elm_meaning.specs.Values.{Value, Env, Bind, BindGroup}
 use Rattle.elm_meaning.specs.Envs.{closure, member, lookup}
 use Rattle.elm_meaning.specs.Match.{matches, on_match}
@@ -23,16 +23,16 @@ use Rattle.js_emit.specs.Patterns.{consts}
 use Rattle.js_emit.specs.Loops.{Loop, Outside}
 use Rattle.js_emit.specs.Made.{made_choice, made_in, made_function, made_functions, made_group, made_groups}
 use Rattle.js_emit.specs.Emit.{numbered, chosen, emit, bodies, groups, group, functions}
-use Rattle.emit_choice_laws.specs.Sizes.{FewInFunctions}
-use Rattle.emit_choice_laws.specs.For.{For, ForEnv}
-use Rattle.emit_choice_laws.specs.Choosing.{IsNow, IsBranch, this_branch, later_branch, ProperRows, Takes, takes_none, takes}
+use Rattle.emit_laws.specs.Sizes.{FewInFunctions}
+use Rattle.emit_laws.specs.For.{For, ForEnv}
+use Rattle.emit_laws.specs.Choosing.{IsNow, IsBranch, this_branch, later_branch, ProperRows, Takes, takes_none, takes}
 use Rattle.emit_laws.proofs.Names.{used, IsClear, IsBound, inside_bound, inside_found, not_again, more_below, clear_const, clear_made, clear_below, const_extends, bound_after}
 use Rattle.emit_laws.proofs.Clear.{clear, clear_chosen, clear_consts, clear_functions, clear_groups, clear_body}
 use Rattle.emit_laws.proofs.Layers.{above_const}
 use Rattle.emit_laws.proofs.Envs.{Keeps, for_keeps, for_bind, for_group, FunctionsBound, functions_bound, arrow_is, refs_apart, older_ref, older_all}
 use Rattle.emit_laws.proofs.Binding.{Reads, reads_name, reads_later, more_used, all_used, pattern_goes}
-use Rattle.emit_choice_laws.proofs.Cases.{Agree, agree_some, agree_none, agree_stuck, agrees, tree_chooses}
-use Rattle.emit_choice_laws.proofs.Rows.{fit}
+use Rattle.emit_laws.proofs.Cases.{Agree, agree_some, agree_none, agree_stuck, agrees, tree_chooses}
+use Rattle.emit_laws.proofs.Rows.{fit}
 use Rattle.emit_laws.proofs.Spots.{InLoop, further, further_on, with_more, in_block, Runs, Gives, IsOutside, Means, means_const}
 use Rattle.emit_laws.proofs.Steps.{After, const_follows}
 use Rattle.emit_laws.proofs.Constructs.{then_then, then_same, ev}

@@ -7,7 +7,7 @@ use Rattle.runs.proofs.Spends.{behind, spends_none, spends_same, spends_call, fo
 use Rattle.elm_canon.specs.Names as source
 use Rattle.elm_canon.specs.declared.reference.Ref.{Ref}
 use Rattle.elm_canon.specs.Tree.{Pattern, Patterns, NoPattern, MorePattern, Expr}
-use Rattle.elm_proper.specs.Proper.{Scope, with_all, bound_by, all_bound_by, BindsAll, Proper, count_of}
+use Rattle.elm_canon.specs.Proper.{Scope, with_all, bound_by, all_bound_by, BindsAll, Proper, count_of}
 use Rattle.elm_meaning.specs.Functions.{Getter}
 use Rattle.elm_meaning.specs.Values.{Value, CloV, KnownV, NoValue, Env, field_of}
 use Rattle.elm_meaning.specs.Match.{matches, on_match}
@@ -20,8 +20,8 @@ use Rattle.js_emit.specs.Patterns.{made_one, made_for, parameter, parameter_cons
 use Rattle.js_emit.specs.Operators.{arrows_of}
 use Rattle.js_emit.specs.Loops.{Outside}
 use Rattle.js_emit.specs.Emit.{emit}
-use Rattle.emit_choice_laws.specs.Sizes.{FewParts}
-use Rattle.emit_choice_laws.specs.For.{For, for_function, for_started, for_record, ForField, no_field, one_field, made_arrows, IsTurning, ForEnv, Started, one_more, turns}
+use Rattle.emit_laws.specs.Sizes.{FewParts}
+use Rattle.emit_laws.specs.For.{For, for_function, for_started, for_record, ForField, no_field, one_field, made_arrows, IsTurning, ForEnv, Started, one_more, turns}
 use Rattle.emit_laws.proofs.Names.{IsBound, clear_below, name_itself}
 use Rattle.emit_laws.proofs.Clear.{clear, fresh_front, with_front}
 use Rattle.emit_laws.proofs.Parameters.{Enters, enters}

@@ -6,7 +6,7 @@ use Rattle.elm_canon.specs.declared.reference.Ref.{Ref}
 use Rattle.elm_canon.specs.declared.reference.Ref.TheVariants as ref
 use Rattle.elm_canon.specs.Tree as tree
 use Rattle.elm_canon.specs.Tree.{Pattern, Anything, Named, As, Exactly, Construct, FieldsOf, LocatedPattern, Patterns, NoPattern, MorePattern, Expr, Is, NameOf, Accessor, Lambda, Apply, Strict, Logical, Case, Located, Exprs, NoExpr, MoreExpr, Branches, NoBranch, MoreBranch, Groups, NoGroup, MoreGroup, Group, Together, Constant, Destructure, Functions, NoFunction, MoreFunction}
-use Rattle.elm_proper.specs.Proper.{Scope, AreFresh, with_all, locals, bound_by, all_bound_by, Proper, ProperBranches, ProperGroup, ProperGroups, function_names, group_names, after}
+use Rattle.elm_canon.specs.Proper.{Scope, AreFresh, with_all, locals, bound_by, all_bound_by, Proper, ProperBranches, ProperGroup, ProperGroups, function_names, group_names, after}
 use Rattle.js_tree.specs.Tree.{Name, Local, Made, Js, JVar, Stmts, Const, Continue}
 use Rattle.js_emit.specs.Patterns.{field_consts, consts, part_consts}
 use Rattle.js_emit.specs.Loops.{Loop, Outside, goes_round, variables, assigns}

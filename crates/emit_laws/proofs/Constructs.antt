@@ -10,7 +10,7 @@ use Rattle.elm_canon.specs.declared.tree.Connective.{Connective}
 use Rattle.elm_canon.specs.declared.tree.Connective.TheVariants as connective
 use Rattle.elm_canon.specs.Tree.{Op, Expr, Apply, Exprs, NoExpr, MoreExpr}
 use Rattle.elm_canon.specs.Tree as source
-use Rattle.elm_proper.specs.Proper.{Scope, count_exprs}
+use Rattle.elm_canon.specs.Proper.{Scope, count_exprs}
 use Rattle.elm_meaning.specs.Values.{Value, Values, NoValue, MoreValue, Env}
 use Rattle.elm_meaning.specs.Eval.{Call, literal_value, left_decides, eval_with, evals_with, apply_with, call_at}
 use Rattle.elm_meaning.specs.Eval as meaning
@@ -22,7 +22,7 @@ use Rattle.js_emit.specs.Operators.{connective_js}
 use Rattle.js_emit.specs.Loops.{Loop, Outside}
 use Rattle.js_emit.specs.Made.{made_in}
 use Rattle.js_emit.specs.Emit.{emit, values, calls}
-use Rattle.emit_choice_laws.specs.For.{For, for_int, for_text, for_truth, ForEnv}
+use Rattle.emit_laws.specs.For.{For, for_int, for_text, for_truth, ForEnv}
 use Rattle.emit_laws.proofs.Names.{used, IsClear}
 use Rattle.emit_laws.proofs.Spots.{CallsFollow, Gives, Means, as_block}
 

@@ -7,12 +7,12 @@ use Rattle.wire_value.specs.Wire as wire
 use Rattle.wire_value.specs.Wire.{Wire, no_wire, more_wires, no_member, more_members}
 use Rattle.wire_value.specs.Exact.{is_exact}
 use Rattle.runs.specs.Ends.{End, Val, then_do, MVal, and_then, with_budget}
-use Rattle.meaning_base.specs.Texts.{units_lt}
-use Rattle.meaning_laws.specs.Records.{Rises}
-use Rattle.meaning_laws.proofs.Records.{found_inserted, inserted_rises}
+use Rattle.runs.specs.Texts.{units_lt}
+use Rattle.emit_laws.specs.Records.{Rises}
+use Rattle.emit_laws.proofs.Records.{found_inserted, inserted_rises}
 use Rattle.elm_canon.specs.Names.{Name, same_name}
 use Rattle.elm_canon.specs.Tree.{Payload, IntPayload, BoolPayload, TextPayload, MaybePayload, ListPayload, TuplePayload, RecordPayload, Payloads, NoPayload, MorePayload, PayloadFields, NoPayloadField, MorePayloadField}
-use Rattle.elm_proper.specs.Spelled.{are_fields}
+use Rattle.elm_canon.specs.Spelled.{are_fields}
 use Rattle.elm_meaning.specs.Values.{Value, IntV, RecordV, Values, MoreValue, FieldValues, NoFieldV, MoreFieldV, field_in, has_field, insert_field, list_of, tuple, just}
 use Rattle.elm_meaning.specs.Ports.{shape, shape_each, shape_all, shape_fields, member_at}
 use Rattle.js_tree.specs.Tree as js
@@ -24,8 +24,8 @@ use Rattle.js_meaning.specs.Codecs.{Decoded, Refusal, Decoding, DecodedAll, Refu
 use Rattle.js_meaning.specs.Codecs as codecs
 use Rattle.js_meaning.specs.Eval.{JCallee, JLoop, j_eval, j_evals}
 use Rattle.js_emit.specs.Codecs.{decoder, decoders, field_decoders}
-use Rattle.emit_choice_laws.specs.Given.{count_payloads, payload_names, ProperPayload, ProperPayloads, ProperPayloadFields}
-use Rattle.emit_choice_laws.specs.For.{For, for_int, for_text, for_number, for_truth, for_blank, for_record, no_part, more_part, ForField, no_field, one_field, is_record}
+use Rattle.emit_laws.specs.Given.{count_payloads, payload_names, ProperPayload, ProperPayloads, ProperPayloadFields}
+use Rattle.emit_laws.specs.For.{For, for_int, for_text, for_number, for_truth, for_blank, for_record, no_part, more_part, ForField, no_field, one_field, is_record}
 use Rattle.emit_laws.proofs.Constructs.{ForAll, for_none, for_more, count_vals}
 use Rattle.emit_laws.proofs.Objects.{made_parts, for_parts, no_part_again, puts, next_field, word_is_not, same_counts}
 use Rattle.emit_laws.proofs.Sights.{part_is}

@@ -7,11 +7,11 @@ use Rattle.std.proofs.lemmas.Slice.Eq.{bytes_eq-Decides}
 use Rattle.wire_value.specs.Wire as wire
 use Rattle.wire_value.specs.Wire.{Wire, no_wire, more_wires, no_member, more_members}
 use Rattle.runs.specs.Ends.{End, Val, Stuck, then_do, MVal, and_then, with_budget}
-use Rattle.meaning_base.specs.Members as base
+use Rattle.runs.specs.Members as base
 use Rattle.elm_canon.specs.Names.{Name, same_name}
 use Rattle.elm_canon.specs.declared.unions.Tag.TheVariants.{Number}
 use Rattle.elm_canon.specs.Tree.{Payload, IntPayload, BoolPayload, TextPayload, MaybePayload, ListPayload, TuplePayload, RecordPayload, Payloads, NoPayload, MorePayload, PayloadFields, NoPayloadField, MorePayloadField}
-use Rattle.elm_proper.specs.Spelled.{are_fields}
+use Rattle.elm_canon.specs.Spelled.{are_fields}
 use Rattle.elm_meaning.specs.Values.{Value, TagV, Values, NoValue, MoreValue}
 use Rattle.elm_meaning.specs.Ports.{unshape, unshape_each, unshape_all, unshape_fields}
 use Rattle.js_tree.specs.Tree as js
@@ -23,12 +23,12 @@ use Rattle.js_meaning.specs.Helpers.{j_help}
 use Rattle.js_meaning.specs.Shapes.{units_lt as js_lt}
 use Rattle.js_meaning.specs.Eval.{JCallee, JLoop, j_eval, j_evals}
 use Rattle.js_emit.specs.Codecs.{encoder, encoders, field_encoders}
-use Rattle.emit_choice_laws.specs.Given.{count_payloads, payload_names, ProperPayload, ProperPayloads, ProperPayloadFields}
-use Rattle.emit_choice_laws.specs.For.{For, for_int, for_text, for_number, for_truth, for_blank, ForParts, no_part, more_part, is_untagged, are_untagged, fields_untagged}
+use Rattle.emit_laws.specs.Given.{count_payloads, payload_names, ProperPayload, ProperPayloads, ProperPayloadFields}
+use Rattle.emit_laws.specs.For.{For, for_int, for_text, for_number, for_truth, for_blank, ForParts, no_part, more_part, is_untagged, are_untagged, fields_untagged}
 use Rattle.emit_laws.proofs.Ends.{EndFor, both_give, any_stuck, end_then}
 use Rattle.emit_laws.proofs.Constructs.{ForAll, for_none, for_more}
 use Rattle.emit_laws.proofs.Objects.{next_field, word_is_not}
-use Rattle.emit_choice_laws.proofs.Trees.{part_apart}
+use Rattle.emit_laws.proofs.Trees.{part_apart}
 use Rattle.emit_laws.proofs.Sights.{part_is}
 use Rattle.emit_laws.proofs.Arithmetic.{same_order}
 use Rattle.emit_laws.proofs.Lists.{items_same}

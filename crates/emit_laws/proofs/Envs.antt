@@ -9,7 +9,7 @@ use Rattle.elm_canon.specs.Names.{same_ref}
 use Rattle.elm_canon.specs.declared.reference.Ref.{Ref}
 use Rattle.elm_canon.specs.declared.reference.Ref.TheVariants as ref
 use Rattle.elm_canon.specs.Tree.{Patterns, NoPattern, MorePattern, Expr, Lambda, Located, Title, Functions, NoFunction, MoreFunction}
-use Rattle.elm_proper.specs.Proper.{Scope, IsIn, among, AreFresh, with_all, all_bound_by, BindsAll, Proper, ProperFunctions, function_names, is_function}
+use Rattle.elm_canon.specs.Proper.{Scope, IsIn, among, AreFresh, with_all, all_bound_by, BindsAll, Proper, ProperFunctions, function_names, is_function}
 use Rattle.elm_meaning.specs.Values.{Value, CloV, Env, Nil, Bind, BindGroup}
 use Rattle.elm_meaning.specs.Envs.{closure, member, lookup}
 use Rattle.js_tree.specs.Tree.{Name, same_name, JArrow, Stmts, Const, Return, Continue}
@@ -19,8 +19,8 @@ use Rattle.js_emit.specs.Loops.{Outside}
 use Rattle.js_emit.specs.Made.{is_loop, made_in, made_function}
 use Rattle.js_emit.specs.Patterns.{made_for, arrows}
 use Rattle.js_emit.specs.Emit.{emit, looped, function, functions}
-use Rattle.emit_choice_laws.specs.Sizes.{FewParts, FewInFunctions}
-use Rattle.emit_choice_laws.specs.For.{For, for_function, MadeAs, made_arrows, made_turns, ForEnv, agree, ForFound, for_found, for_member}
+use Rattle.emit_laws.specs.Sizes.{FewParts, FewInFunctions}
+use Rattle.emit_laws.specs.For.{For, for_function, MadeAs, made_arrows, made_turns, ForEnv, agree, ForFound, for_found, for_member}
 use Rattle.emit_laws.proofs.Names.{Used, used, used_ref, name_same, name_itself, Extends, IsBound}
 
 -- ---- names of the source

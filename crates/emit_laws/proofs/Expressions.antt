@@ -8,7 +8,7 @@ use Rattle.runs.proofs.Spends.{spends_none}
 use Rattle.elm_canon.specs.declared.reference.Ref.{Ref}
 use Rattle.elm_canon.specs.Tree.{Op, NoPattern, MorePattern, Expr, Is, NameOf, Accessor, Lambda, Apply, Strict, Logical, Case, Located, Exprs, NoExpr, MoreExpr, Branches, NoBranch, MoreBranch, Groups, NoGroup, MoreGroup, Group, Together, Constant, Destructure}
 use Rattle.elm_canon.specs.Tree as source
-use Rattle.elm_proper.specs.Proper.{Scope, with_all, bound_by, Proper, AllProper, ProperOp, ProperBranches, ProperGroup, ProperGroups, group_names, after, count_exprs}
+use Rattle.elm_canon.specs.Proper.{Scope, with_all, bound_by, Proper, AllProper, ProperOp, ProperBranches, ProperGroup, ProperGroups, group_names, after, count_exprs}
 use Rattle.elm_meaning.specs.Values.{Values}
 use Rattle.elm_meaning.specs.Operate.{perform}
 use Rattle.elm_meaning.specs.Eval.{evals_with, call_at}
@@ -20,8 +20,8 @@ use Rattle.js_emit.specs.Operators.{perform_js, connective_js}
 use Rattle.js_emit.specs.Loops.{Loop, Outside, Inside, is_call}
 use Rattle.js_emit.specs.Made.{made_in, made_groups}
 use Rattle.js_emit.specs.Emit.{emit, values, calls, go_round}
-use Rattle.emit_choice_laws.specs.Sizes.{FewFor, FewParts, FewInAll, FewInBranches, FewInGroups, FewInGroup}
-use Rattle.emit_choice_laws.specs.For.{For, for_function, for_getter, made_arrows}
+use Rattle.emit_laws.specs.Sizes.{FewFor, FewParts, FewInAll, FewInBranches, FewInGroups, FewInGroup}
+use Rattle.emit_laws.specs.For.{For, for_function, for_getter, made_arrows}
 use Rattle.emit_laws.proofs.Names.{clear_below}
 use Rattle.emit_laws.proofs.Clear.{clear}
 use Rattle.emit_laws.proofs.Envs.{looked_up}

@@ -15,7 +15,7 @@ use Rattle.js_meaning.specs.Values.{JVal, JTextV, NoJField, MoreJField, get_fiel
 use Rattle.js_meaning.specs.Lists.{part_name, tagged}
 use Rattle.js_meaning.specs.Run.{wire_of, Parcels, readings, j_stage}
 use Rattle.js_meaning.specs.Run as js
-use Rattle.emit_choice_laws.specs.For.{For, for_text, for_number, for_wire, no_part, more_part}
+use Rattle.emit_laws.specs.For.{For, for_text, for_number, for_wire, no_part, more_part}
 use Rattle.emit_laws.proofs.Ends.{EndFor, both_give, any_stuck, end_then}
 use Rattle.emit_laws.proofs.Sights.{part_is}
 use Rattle.emit_laws.proofs.Operators.{field_same}

@@ -5,7 +5,7 @@ use Rattle.runs.specs.Pay.{Run, Follows, unclaimed_stuck}
 use Rattle.runs.proofs.Spends.{behind}
 use Rattle.elm_canon.specs.declared.reference.Ref.{Ref}
 use Rattle.elm_canon.specs.Tree.{Pattern, Patterns, NoPattern, MorePattern, Expr}
-use Rattle.elm_proper.specs.Proper.{Scope, count_of}
+use Rattle.elm_canon.specs.Proper.{Scope, count_of}
 use Rattle.elm_meaning.specs.Functions.{Bodiless, arity_of}
 use Rattle.elm_meaning.specs.Values.{Value, CloV, KnownV, Values, Env}
 use Rattle.elm_meaning.specs.Eval.{enter, call_at}
@@ -14,8 +14,8 @@ use Rattle.js_meaning.specs.Values.{JVal, JCloV, JEnv}
 use Rattle.js_emit.specs.Names.{made_names, vars}
 use Rattle.js_emit.specs.Operators.{arrows_of, finish_js}
 use Rattle.js_emit.specs.Emit.{emit, looped}
-use Rattle.emit_choice_laws.specs.Given.{ProperBodiless}
-use Rattle.emit_choice_laws.specs.For.{For, for_int, for_text, for_number, for_truth, for_blank, for_record, for_wire, for_function, for_started, for_getter, for_known, made_arrows, made_turns, IsTurning, ForEnv, Started, not_started, GivenSo, turns}
+use Rattle.emit_laws.specs.Given.{ProperBodiless}
+use Rattle.emit_laws.specs.For.{For, for_int, for_text, for_number, for_truth, for_blank, for_record, for_wire, for_function, for_started, for_getter, for_known, made_arrows, made_turns, IsTurning, ForEnv, Started, not_started, GivenSo, turns}
 use Rattle.emit_laws.proofs.Spots.{CallsFollow}
 use Rattle.emit_laws.proofs.Expressions.{PerformsFollow, RoundsFollow, AllMeanSo, means}
 use Rattle.emit_laws.proofs.Calls.{paid, called_behind, Lower, arrows_called, early_started, getter_called}

@@ -9,7 +9,7 @@ use Rattle.runs.proofs.Spends.{behind, spends_same, follows_after}
 use Rattle.elm_canon.specs.declared.reference.Ref.{Ref}
 use Rattle.elm_canon.specs.declared.reference.Ref.TheVariants as ref
 use Rattle.elm_canon.specs.Tree.{Pattern, Patterns, NoPattern, MorePattern, Expr, Apply, Exprs, NoExpr, MoreExpr}
-use Rattle.elm_proper.specs.Proper.{Scope, count_of, count_exprs}
+use Rattle.elm_canon.specs.Proper.{Scope, count_of, count_exprs}
 use Rattle.elm_meaning.specs.Envs.{lookup}
 use Rattle.elm_meaning.specs.Values.{Value, CloV, Env}
 use Rattle.elm_meaning.specs.Match.{matches}
@@ -20,7 +20,7 @@ use Rattle.js_meaning.specs.Eval.{JCallee, JLoop, JAgain, j_exec, j_call, j_loop
 use Rattle.js_emit.specs.Names.{js_name, made_names}
 use Rattle.js_emit.specs.Loops.{is_name, is_call, lets}
 use Rattle.js_emit.specs.Emit.{go_round}
-use Rattle.emit_choice_laws.specs.For.{For, ForEnv, IsTurning, Started, not_started, one_more, turns}
+use Rattle.emit_laws.specs.For.{For, ForEnv, IsTurning, Started, not_started, one_more, turns}
 use Rattle.emit_laws.proofs.Envs.{for_same}
 use Rattle.emit_laws.proofs.Names.{used, IsBound}
 use Rattle.emit_laws.proofs.Layers.{Above, Below}

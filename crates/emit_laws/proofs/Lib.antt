@@ -31,3 +31,20 @@ pub mod Flat
 pub mod Tops
 pub mod Ports
 pub mod Programs
+-- ends that stay the same with more fuel, and the meaning by them
+pub mod Extends
+pub mod Fuel
+pub mod Runs
+-- what patterns bind
+pub mod MeaningLawsBinding
+-- equality and order of values
+pub mod Tests
+pub mod Equality
+pub mod Order
+-- records
+pub mod Records
+pub mod Rows
+pub mod Choose
+pub mod EmitChoiceLawsTests
+pub mod Trees
+pub mod Cases

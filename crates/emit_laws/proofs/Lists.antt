@@ -5,11 +5,11 @@ use Rattle.std.specs.List.{list_any}
 use Rattle.std.specs.Str.{bytes_eq}
 use Rattle.std.proofs.lemmas.Slice.Eq.{bytes_eq-Decides}
 use Rattle.runs.specs.Ends.{End, Val, Stuck, then_do}
-use Rattle.meaning_laws.specs.Records.{Rises, named_value}
-use Rattle.meaning_laws.proofs.Records.{records_hold, records_rise, updates_hold, updates_rise}
+use Rattle.emit_laws.specs.Records.{Rises, named_value}
+use Rattle.emit_laws.proofs.Records.{records_hold, records_rise, updates_hold, updates_rise}
 use Rattle.elm_canon.specs.Names.{Name, same_name}
 use Rattle.elm_canon.specs.declared.unions.Tag.TheVariants.{Number}
-use Rattle.elm_proper.specs.Spelled.{are_fields}
+use Rattle.elm_canon.specs.Spelled.{are_fields}
 use Rattle.elm_meaning.specs.Values.{Value, TextV, TagV, RecordV, Values, NoValue, MoreValue, FieldValues, NoFieldV, MoreFieldV, has_field, insert_field, fields_of, field_in, replace_field, replace_fields, items, cons, nil, list_before, record_of}
 use Rattle.elm_meaning.specs.Operate.{append}
 use Rattle.js_meaning.specs.Values.{JVal, JNumV, JTextV, JObjV, JVals, NoJVal, MoreJVal, JFields, NoJField, MoreJField}
@@ -18,7 +18,7 @@ use Rattle.js_meaning.specs.Lists.{part_name, tagged, items_of, items_by, with_i
 use Rattle.js_meaning.specs.Lists as lists
 use Rattle.js_meaning.specs.Helpers.{replace_in, update_in, update}
 use Rattle.js_meaning.specs.Helpers as helpers
-use Rattle.emit_choice_laws.specs.For.{For, for_text, for_number, for_record, no_part, more_part, ForField, no_field, one_field, is_record}
+use Rattle.emit_laws.specs.For.{For, for_text, for_number, for_record, no_part, more_part, ForField, no_field, one_field, is_record}
 use Rattle.emit_laws.proofs.Ends.{EndFor, both_give, any_stuck, end_then}
 use Rattle.emit_laws.proofs.Constructs.{ForAll, for_none, for_more}
 use Rattle.emit_laws.proofs.Objects.{named, next_field, word_is_not}

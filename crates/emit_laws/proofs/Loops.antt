@@ -7,7 +7,7 @@ use Rattle.runs.specs.Pay.{starves}
 use Rattle.runs.proofs.Spends.{behind, spends_same, follows_after, follows_call}
 use Rattle.elm_canon.specs.declared.reference.Ref.TheVariants as ref
 use Rattle.elm_canon.specs.Tree.{Pattern, Patterns, NoPattern, MorePattern}
-use Rattle.elm_proper.specs.Proper.{Scope, AreFresh, with_all, bound_by, all_bound_by, count_of, ProperPattern, ProperPatterns}
+use Rattle.elm_canon.specs.Proper.{Scope, AreFresh, with_all, bound_by, all_bound_by, count_of, ProperPattern, ProperPatterns}
 use Rattle.elm_meaning.specs.Values.{Value, Env}
 use Rattle.elm_meaning.specs.Match.{matches}
 use Rattle.js_tree.specs.Tree.{Name, Local, Made, same_name, JVar, Stmts, Const}
@@ -18,7 +18,7 @@ use Rattle.js_emit.specs.Patterns.{consts, made_one, made_for, parameter, parame
 use Rattle.js_emit.specs.Loops.{turn}
 use Rattle.js_emit.specs.Made.{loop_of}
 use Rattle.js_emit.specs.Emit.{emit}
-use Rattle.emit_choice_laws.specs.For.{For, ForEnv}
+use Rattle.emit_laws.specs.For.{For, ForEnv}
 use Rattle.emit_laws.proofs.Names.{used, name_itself, name_same, IsClear, IsBound, inside_bound, inside_found, not_again, more_below, const_extends, bound_after, clear_const, clear_made, clear_below}
 use Rattle.emit_laws.proofs.Clear.{clear, clear_consts, fresh_front, with_front}
 use Rattle.emit_laws.proofs.Layers.{at_turn, above_const, above_inside}

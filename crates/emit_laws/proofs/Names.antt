@@ -9,7 +9,7 @@ use Rattle.runs.specs.Ends.{End, Val, Stuck}
 use Rattle.elm_canon.specs.Names.{same_ref}
 use Rattle.elm_canon.specs.declared.reference.Ref.{Ref}
 use Rattle.elm_canon.specs.declared.reference.Ref.TheVariants as source
-use Rattle.elm_proper.specs.Proper.{Scope, among}
+use Rattle.elm_canon.specs.Proper.{Scope, among}
 use Rattle.js_tree.specs.Tree.{Name, Top, Local, Made, same_name, JArrow, Stmts, Const, Let, Assign, Return, If, While, Continue, declares, declares_any}
 use Rattle.js_meaning.specs.Values.{JVal, JCloV, JEnv, JBind, JBindRun, JHide, run_find, j_find}
 use Rattle.js_meaning.specs.Eval.{inside}

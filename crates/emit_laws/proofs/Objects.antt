@@ -6,7 +6,7 @@ use Rattle.std.specs.Str.{bytes_eq}
 use Rattle.std.proofs.lemmas.Slice.Eq.{bytes_eq-Decides}
 use Rattle.runs.specs.Ends.{Val, Stuck, Metered, MVal, and_then, with_budget}
 use Rattle.elm_canon.specs.Names.{Name, same_name}
-use Rattle.elm_proper.specs.Spelled.{is_word, are_fields}
+use Rattle.elm_canon.specs.Spelled.{is_word, are_fields}
 use Rattle.elm_meaning.specs.Values.{Values, NoValue, MoreValue}
 use Rattle.elm_meaning.specs.Values as source
 use Rattle.js_tree.specs.Tree.{JsList, NoJs, MoreJs}
@@ -15,10 +15,10 @@ use Rattle.js_meaning.specs.Lists.{part_name}
 use Rattle.js_meaning.specs.Lists as lists
 use Rattle.js_meaning.specs.Eval.{JCallee, JLoop, j_eval, j_evals, j_fields}
 use Rattle.js_emit.specs.Names.{parts_from, fields_js, tagged}
-use Rattle.emit_choice_laws.specs.For.{ForParts, no_part, more_part}
+use Rattle.emit_laws.specs.For.{ForParts, no_part, more_part}
 use Rattle.emit_laws.proofs.Ends.{and_and, and_same}
 use Rattle.emit_laws.proofs.Constructs.{ForAll, for_none, for_more, count_vals}
-use Rattle.emit_choice_laws.proofs.Trees.{part_apart}
+use Rattle.emit_laws.proofs.Trees.{part_apart}
 
 abbrev pub count_js : JsList → ℕ
 count_js NoJs = 0

@@ -6,15 +6,15 @@ use Rattle.std.specs.declared.cmp.Ordering.TheVariants.{Less, Equal, Greater}
 use Rattle.std.specs.Ordering.{is_lt, is_gt, is_le, is_ge}
 use Rattle.wire_value.specs.Exact.{is_exact}
 use Rattle.runs.specs.Ends.{End, Val, Unsafe, Stuck, then_do}
-use Rattle.meaning_base.specs.Numbers as numbers
+use Rattle.runs.specs.Numbers as numbers
 use Rattle.elm_canon.specs.Names.{Name}
 use Rattle.elm_canon.specs.declared.unions.Tag.{Tag}
 use Rattle.elm_canon.specs.declared.unions.Tag.TheVariants.{Number, Truth, Blank}
 use Rattle.elm_canon.specs.declared.tree.Operator.{Operator}
 use Rattle.elm_canon.specs.declared.tree.Operator.TheVariants as operator
 use Rattle.elm_canon.specs.Tree.{Op, TupleOf, ListOf, Build, RecordOf, Access, Update, Negate, Binary}
-use Rattle.elm_proper.specs.Spelled.{are_fields}
-use Rattle.elm_proper.specs.Proper.{ProperOp}
+use Rattle.elm_canon.specs.Spelled.{are_fields}
+use Rattle.elm_canon.specs.Proper.{ProperOp}
 use Rattle.elm_meaning.specs.Values.{Value, IntV, TextV, Values, NoValue, MoreValue, truth, tuple, field_of, count_of}
 use Rattle.elm_meaning.specs.Equal.{equals}
 use Rattle.elm_meaning.specs.Order.{compares, order_number}
@@ -25,8 +25,8 @@ use Rattle.js_meaning.specs.Lists.{tagged, list_value}
 use Rattle.js_meaning.specs.Shapes.{shape, compare, equal}
 use Rattle.js_meaning.specs.Helpers.{j_help, on_values, update}
 use Rattle.js_meaning.specs.Eval.{j_operate}
-use Rattle.emit_choice_laws.specs.Sizes.{FewFor}
-use Rattle.emit_choice_laws.specs.For.{For, for_int, for_text, for_number, for_truth, for_blank, for_record, ForField, no_field, one_field}
+use Rattle.emit_laws.specs.Sizes.{FewFor}
+use Rattle.emit_laws.specs.For.{For, for_int, for_text, for_number, for_truth, for_blank, for_record, ForField, no_field, one_field}
 use Rattle.emit_laws.proofs.Ends.{EndFor, both_give, any_unsafe, any_stuck, end_then, end_right}
 use Rattle.emit_laws.proofs.Constructs.{ForAll, for_none, for_more, then_then, count_vals}
 use Rattle.emit_laws.proofs.Objects.{made_parts, named, for_parts, same_counts}

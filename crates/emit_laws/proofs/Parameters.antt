@@ -5,7 +5,7 @@ use Rattle.runs.specs.Ends.{Val}
 use Rattle.elm_canon.specs.Names as source
 use Rattle.elm_canon.specs.declared.reference.Ref.TheVariants as ref
 use Rattle.elm_canon.specs.Tree.{Pattern, Anything, Named, As, Exactly, Construct, FieldsOf, LocatedPattern}
-use Rattle.elm_proper.specs.Proper.{Scope, among, AreFresh, with_all, bound_by, ProperPattern}
+use Rattle.elm_canon.specs.Proper.{Scope, among, AreFresh, with_all, bound_by, ProperPattern}
 use Rattle.elm_meaning.specs.Values.{Value, Env, Bind}
 use Rattle.elm_meaning.specs.Match.{matches}
 use Rattle.js_tree.specs.Tree.{Name, Local, Made, JVar, Stmts, declares}
@@ -13,7 +13,7 @@ use Rattle.js_meaning.specs.Values.{JVal, JEnv, JBind, j_find}
 use Rattle.js_meaning.specs.Eval.{JCallee, JLoop, JAgain, j_exec, inside}
 use Rattle.js_emit.specs.Patterns.{consts, made_one, parameter, parameter_consts}
 use Rattle.std.proofs.lemmas.Bool.{lt-ltb}
-use Rattle.emit_choice_laws.specs.For.{For, ForEnv}
+use Rattle.emit_laws.specs.For.{For, ForEnv}
 use Rattle.emit_laws.proofs.Names.{Used, used, used_ref, name_itself, apart, IsClear, IsBound, inside_bound, inside_found, not_again, more_below, Extends, clear_const, clear_made}
 use Rattle.emit_laws.proofs.Clear.{clear_consts}
 use Rattle.emit_laws.proofs.Envs.{for_keeps, for_bind}

@@ -14,9 +14,9 @@ use Rattle.elm_canon.specs.declared.tree.Operator.TheVariants as operator
 use Rattle.elm_canon.specs.Tree.{Op, TupleOf, ListOf, Build, RecordOf, Access, Update, Negate, Binary}
 use Rattle.elm_canon.specs.declared.unions.Alternative.{Alternative}
 use Rattle.elm_canon.specs.Unions.{Union, alternatives}
-use Rattle.elm_proper.specs.Spelled.{are_fields}
-use Rattle.elm_proper.specs.Constructors.{same_tag, same_kind, is_exact_tag, is_exact_alternative, has_tag, are_apart, is_one_of, is_constructor}
-use Rattle.elm_proper.specs.Proper.{ProperOp}
+use Rattle.elm_canon.specs.Spelled.{are_fields}
+use Rattle.elm_canon.specs.Constructors.{same_tag, same_kind, is_exact_tag, is_exact_alternative, has_tag, are_apart, is_one_of, is_constructor}
+use Rattle.elm_canon.specs.Proper.{ProperOp}
 use Rattle.elm_meaning.specs.Operate.{perform}
 use Rattle.js_tree.specs.Tree as js
 use Rattle.js_tree.specs.Tree.{Js, JInt, JBool, JBinary, JHelper, JObject, JsList, NoJs, MoreJs}
@@ -26,7 +26,7 @@ use Rattle.js_meaning.specs.Helpers.{j_help}
 use Rattle.js_meaning.specs.Eval.{JCallee, JLoop, j_eval, j_evals, j_call, j_loop, j_operate}
 use Rattle.js_emit.specs.Names.{one, two, fields_js, build_js}
 use Rattle.js_emit.specs.Operators.{binary_js, perform_js}
-use Rattle.emit_choice_laws.specs.Sizes.{FewFor}
+use Rattle.emit_laws.specs.Sizes.{FewFor}
 use Rattle.emit_laws.proofs.Ends.{and_and, and_same, budget_then, follows_end}
 use Rattle.emit_laws.proofs.Constructs.{count_vals}
 use Rattle.emit_laws.proofs.Objects.{count_js, all_same, tagged_run, fields_run, made_parts, named}

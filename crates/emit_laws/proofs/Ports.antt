@@ -5,11 +5,11 @@ use Rattle.std.specs.List.{list_any}
 use Rattle.std.specs.Str.{bytes_eq}
 use Rattle.std.proofs.lemmas.Slice.Eq.{bytes_eq-Decides}
 use Rattle.runs.specs.Ends.{End, Val, MVal, and_then, with_budget}
-use Rattle.meaning_base.specs.Texts.{units_lt}
+use Rattle.runs.specs.Texts.{units_lt}
 use Rattle.elm_canon.specs.Names.{Name, same_name}
 use Rattle.elm_canon.specs.declared.reference.Ref.{Ref}
 use Rattle.elm_canon.specs.Tree.{Payload, Maker, RecordMaker, OutPort, InPort, Declaration, Given, Define}
-use Rattle.elm_proper.specs.Spelled.{are_fields}
+use Rattle.elm_canon.specs.Spelled.{are_fields}
 use Rattle.elm_meaning.specs.Run.{Flags, AnyFlags, FlagsOf, out_ports, in_port}
 use Rattle.js_tree.specs.Tree as js
 use Rattle.js_tree.specs.Tree.{Js, JVar, JObject, Fields, NoField, MoreField}

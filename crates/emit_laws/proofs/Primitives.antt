@@ -6,8 +6,8 @@ use Rattle.std.proofs.lemmas.Bool.Decides.{Decides-eqb}
 use Rattle.runs.specs.Ends.{End, Val, Crashed, Unsafe, Stuck, then_do, Metered, MVal, MOutOfFuel, and_then, with_budget}
 use Rattle.runs.specs.Pay.{Follows, gives, unclaimed_stuck}
 use Rattle.runs.proofs.Spends.{behind, spends_none, spends_same, spends_call, follows_after, follows_then}
-use Rattle.meaning_base.specs.Numbers as numbers
-use Rattle.meaning_base.specs.Texts as texts
+use Rattle.runs.specs.Numbers as numbers
+use Rattle.runs.specs.Texts as texts
 use Rattle.elm_canon.specs.Names as source_names
 use Rattle.elm_canon.specs.Tree.{Payload, IntPayload, BoolPayload, TextPayload, MaybePayload, ListPayload, TuplePayload, RecordPayload, NoPayload, MorePayload, Maker, RecordMaker, OutPort, InPort}
 use Rattle.elm_meaning.specs.Functions as source
@@ -29,8 +29,8 @@ use Rattle.js_meaning.specs.Eval.{JCallee, JLoop, j_eval, j_evals, j_exec, j_cal
 use Rattle.js_emit.specs.Names.{made_names, vars, two}
 use Rattle.js_emit.specs.Operators.{helper, finish_js, arrows_of}
 use Rattle.js_emit.specs.Codecs.{encoder}
-use Rattle.emit_choice_laws.specs.Given.{ProperPayload, ProperBodiless}
-use Rattle.emit_choice_laws.specs.For.{For, for_int, for_text, for_number, for_wire, for_known, GivenSo, none_given, one_given}
+use Rattle.emit_laws.specs.Given.{ProperPayload, ProperBodiless}
+use Rattle.emit_laws.specs.For.{For, for_int, for_text, for_number, for_wire, for_known, GivenSo, none_given, one_given}
 use Rattle.emit_laws.proofs.Ends.{EndFor, both_give, both_crash, any_unsafe, any_stuck, end_then, follows_end}
 use Rattle.emit_laws.proofs.Constructs.{ForAll, for_none, for_more, count_vals}
 use Rattle.emit_laws.proofs.Arithmetic.{same_and, same_or, same_xor, same_not, same_left, same_right, same_right_zero, same_digits, same_slice, same_find, same_unit}

@@ -10,7 +10,7 @@ use Rattle.runs.proofs.SameRuns.{same_runs}
 use Rattle.std.specs.Prelude.{if◌then◌else◌}
 use Rattle.elm_canon.specs.Names.{Name, same_name}
 use Rattle.elm_canon.specs.Tree.{Payload, Maker, RecordMaker, OutPort, InPort, Declaration, Given, Define}
-use Rattle.elm_proper.specs.Declarations.{after_declarations}
+use Rattle.elm_canon.specs.Declarations.{after_declarations}
 use Rattle.elm_meaning.specs.Values.{Value, Env, Nil}
 use Rattle.elm_meaning.specs.Envs.{lookup}
 use Rattle.elm_meaning.specs.Eval.{call_at}
@@ -22,8 +22,8 @@ use Rattle.js_meaning.specs.Run as js
 use Rattle.js_meaning.specs.Eval.{j_eval, j_exec, j_call, j_loop, nowhere, inside}
 use Rattle.js_emit.specs.Names.{js_name}
 use Rattle.js_emit.specs.Program.{Emit, out_names}
-use Rattle.emit_choice_laws.specs.Given.{ProperPayload}
-use Rattle.emit_choice_laws.specs.For.{For, for_blank, ForEnv}
+use Rattle.emit_laws.specs.Given.{ProperPayload}
+use Rattle.emit_laws.specs.For.{For, for_blank, ForEnv}
 use Rattle.emit_laws.specs.Programs.{CanBeSaid, ProperFlags, primitive_scope, ProperProgram, ProgramsAlike}
 use Rattle.emit_laws.proofs.Names.{inside_bound, used}
 use Rattle.emit_laws.proofs.Envs.{for_nil, looked_up}

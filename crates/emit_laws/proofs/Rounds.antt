@@ -9,7 +9,7 @@ use Rattle.runs.proofs.Spends.{spends_same, follows_after}
 use Rattle.elm_canon.specs.declared.reference.Ref.{Ref}
 use Rattle.elm_canon.specs.Tree.{Pattern, Patterns, NoPattern, MorePattern, Expr, NameOf, Located, Exprs, NoExpr, MoreExpr}
 use Rattle.elm_meaning.specs.Envs.{lookup}
-use Rattle.elm_proper.specs.Proper.{Scope, count_of, count_exprs}
+use Rattle.elm_canon.specs.Proper.{Scope, count_of, count_exprs}
 use Rattle.elm_meaning.specs.Values.{Value, CloV, Env}
 use Rattle.elm_meaning.specs.Match.{matches}
 use Rattle.elm_meaning.specs.Eval.{Call, eval_with, apply_with, call_at}
@@ -20,7 +20,7 @@ use Rattle.js_emit.specs.Names.{made_names, now}
 use Rattle.js_emit.specs.Loops.{Outside, is_name, assigns}
 use Rattle.js_emit.specs.Made.{made_in}
 use Rattle.js_emit.specs.Emit.{emit, go_round}
-use Rattle.emit_choice_laws.specs.For.{For, ForEnv, IsTurning}
+use Rattle.emit_laws.specs.For.{For, ForEnv, IsTurning}
 use Rattle.emit_laws.proofs.Clear.{clear_round}
 use Rattle.emit_laws.proofs.Envs.{ref_same, for_keeps}
 use Rattle.emit_laws.proofs.Steps.{const_follows}

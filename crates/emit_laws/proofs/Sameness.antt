@@ -9,8 +9,8 @@ use Rattle.std.specs.Cmp.Lexicographic.{slice_cmp}
 use Rattle.wire_value.specs.Wire as wire
 use Rattle.wire_value.specs.Wire.{Wire, no_wire, more_wires, no_member, more_members}
 use Rattle.runs.specs.Ends.{End, Val, Stuck, then_do}
-use Rattle.meaning_laws.proofs.Records.{lt_by_order}
-use Rattle.meaning_laws.proofs.Tests.{text_by_order, number_by_order, right_so}
+use Rattle.emit_laws.proofs.Records.{lt_by_order}
+use Rattle.emit_laws.proofs.Tests.{text_by_order, number_by_order, right_so}
 use Rattle.elm_canon.specs.Names.{Name}
 use Rattle.elm_canon.specs.declared.unions.Tag.TheVariants.{Number}
 use Rattle.elm_meaning.specs.Values.{Value}
@@ -23,7 +23,7 @@ use Rattle.js_meaning.specs.Values.{JVal}
 use Rattle.js_meaning.specs.Lists.{is_number}
 use Rattle.js_meaning.specs.Shapes.{Shape, NullS, NumberS, BoolS, ArrayS, TaggedS, Shapes, NoShape, MoreShape, Members, NoMember, MoreMember, shape}
 use Rattle.js_meaning.specs.Shapes as js
-use Rattle.emit_choice_laws.specs.For.{For}
+use Rattle.emit_laws.specs.For.{For}
 use Rattle.emit_laws.proofs.Ends.{EndFor, both_give, both_crash, any_stuck, end_then}
 use Rattle.emit_laws.proofs.Arithmetic.{same_numbers, same_order}
 use Rattle.emit_laws.proofs.Sights.{WireFor, wire_null, wire_bool, wire_int, wire_text, wire_list, wire_object, WiresFor, no_wires, more_wires_for, WireMembersFor, no_members, more_members_for, SeenFor, seen_function, seen_int, seen_text, seen_number, seen_truth, seen_blank, seen_record, seen_dict, seen_wire, SeensFor, no_seens, more_seens, MembersFor, no_member_seen, more_member_seen, seen}

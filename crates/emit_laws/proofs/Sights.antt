@@ -8,9 +8,9 @@ use Rattle.std.proofs.lemmas.Fmt.{decimal_digit}
 use Rattle.wire_value.specs.Wire as wire
 use Rattle.wire_value.specs.Wire.{Wire, no_wire, more_wires, no_member, more_members}
 use Rattle.runs.specs.Ends.{End, Val, Stuck, then_do}
-use Rattle.meaning_base.specs.Texts.{units_lt}
-use Rattle.meaning_laws.specs.Records.{Rises}
-use Rattle.meaning_laws.proofs.Records.{Under, rest_rises, rises_more, under_less, same_record, found_inserted, inserted_rises}
+use Rattle.runs.specs.Texts.{units_lt}
+use Rattle.emit_laws.specs.Records.{Rises}
+use Rattle.emit_laws.proofs.Records.{Under, rest_rises, rises_more, under_less, same_record, found_inserted, inserted_rises}
 use Rattle.elm_canon.specs.Names.{Name, same_name}
 use Rattle.elm_canon.specs.declared.unions.Tag.TheVariants.{Number, Truth, Blank}
 use Rattle.elm_meaning.specs.Values.{Value, TagV, RecordV, WireV, Values, NoValue, MoreValue, FieldValues, NoFieldV, MoreFieldV, count_of, field_in, has_field, insert_field}
@@ -21,9 +21,9 @@ use Rattle.js_meaning.specs.Lists.{part_name, is_number}
 use Rattle.js_meaning.specs.Run.{wire_of, wires_of, members_of, put_wire}
 use Rattle.js_meaning.specs.Shapes.{Shape, NullS, NumberS, BoolS, ArrayS, TaggedS, Shapes, NoShape, MoreShape, Members, NoMember, MoreMember, shape, shapes, seen_fields, before, seen_at, SeenFields, parts_from, put_member, members_by_name, object_shape, dict_pairs}
 use Rattle.js_meaning.specs.Shapes as look
-use Rattle.emit_choice_laws.specs.For.{For, for_int, for_text, for_number, for_truth, for_blank, for_record, for_wire, for_function, for_started, for_getter, for_known, ForParts, no_part, more_part, ForField, no_field, one_field, is_untagged, are_untagged, fields_untagged, is_record}
+use Rattle.emit_laws.specs.For.{For, for_int, for_text, for_number, for_truth, for_blank, for_record, for_wire, for_function, for_started, for_getter, for_known, ForParts, no_part, more_part, ForField, no_field, one_field, is_untagged, are_untagged, fields_untagged, is_record}
 use Rattle.emit_laws.proofs.Turns.{then_gives}
-use Rattle.emit_choice_laws.proofs.Trees.{part_apart}
+use Rattle.emit_laws.proofs.Trees.{part_apart}
 use Rattle.emit_laws.proofs.Arithmetic.{same_order}
 
 -- ---- what is seen on both sides

@@ -5,7 +5,7 @@ use Rattle.runs.specs.Ends.{End, Val, OutOfFuel}
 use Rattle.runs.specs.Pay.{Follows}
 use Rattle.elm_canon.specs.declared.reference.Ref.{Ref}
 use Rattle.elm_canon.specs.Tree.{Patterns, NoPattern, MorePattern, Pattern, Expr}
-use Rattle.elm_proper.specs.Proper.{Scope, IsIn, among, with_all, count_of}
+use Rattle.elm_canon.specs.Proper.{Scope, IsIn, among, with_all, count_of}
 use Rattle.elm_meaning.specs.Values.{Value, CloV, Env}
 use Rattle.elm_meaning.specs.Envs.{lookup}
 use Rattle.elm_meaning.specs.Match.{matches}
@@ -18,7 +18,7 @@ use Rattle.js_emit.specs.Patterns.{made_for}
 use Rattle.js_emit.specs.Loops.{Loop, Outside, Inside, turn}
 use Rattle.js_emit.specs.Made.{loop_of}
 use Rattle.js_emit.specs.Emit.{emit}
-use Rattle.emit_choice_laws.specs.For.{For, ForEnv, IsTurning}
+use Rattle.emit_laws.specs.For.{For, ForEnv, IsTurning}
 use Rattle.emit_laws.proofs.Names.{Used, used, IsClear, IsBound, inside_bound, inside_found, more_below}
 use Rattle.emit_laws.proofs.Layers.{Above, Below, above_inside}
 use Rattle.emit_laws.proofs.Envs.{for_keeps, older_all}

@@ -8,7 +8,7 @@ use Rattle.elm_meaning.specs.Values.{Value}
 use Rattle.js_tree.specs.Tree.{Name, Js, JArrow, Stmts, Const}
 use Rattle.js_meaning.specs.Values.{JVal, JCloV, JEnv, JBind, JBindRun}
 use Rattle.js_meaning.specs.Eval.{JAgain, j_eval, j_exec, j_call, j_loop, if_arrow}
-use Rattle.emit_choice_laws.specs.For.{For}
+use Rattle.emit_laws.specs.For.{For}
 use Rattle.emit_laws.proofs.Names.{Used, with_name, IsClear, IsBound, not_again, Extends, const_extends, bound_after}
 use Rattle.emit_laws.proofs.Layers.{Above, Below, above_const}
 

@@ -8,8 +8,8 @@ use Rattle.runs.proofs.Spends.{spends_none, spends_same, follows_after}
 use Rattle.elm_canon.specs.declared.reference.Ref.{Ref}
 use Rattle.elm_canon.specs.Tree as tree
 use Rattle.elm_canon.specs.Tree.{Group, Together, Constant, Destructure, Functions, NoFunction, MoreFunction, Declaration, Define}
-use Rattle.elm_proper.specs.Proper.{Scope, AreFresh, with_all, function_names, ProperFunctions}
-use Rattle.elm_proper.specs.Declarations.{ProperDeclarations, after_declarations}
+use Rattle.elm_canon.specs.Proper.{Scope, AreFresh, with_all, function_names, ProperFunctions}
+use Rattle.elm_canon.specs.Declarations.{ProperDeclarations, after_declarations}
 use Rattle.elm_meaning.specs.Functions.{Primitive, Bodiless, Given, Core, arity_of, primitive_arity}
 use Rattle.elm_meaning.specs.Functions as source
 use Rattle.elm_meaning.specs.Values.{KnownV, NoValue, Env, Bind, BindGroup}
@@ -24,9 +24,9 @@ use Rattle.js_emit.specs.Operators.{finish_js, arrows_of, bodiless_js}
 use Rattle.js_emit.specs.Loops.{Outside}
 use Rattle.js_emit.specs.Emit.{emit}
 use Rattle.js_emit.specs.Program.{function_lines, declaration_lines, primitive_lines}
-use Rattle.emit_choice_laws.specs.Given.{ProperBodiless}
-use Rattle.emit_choice_laws.specs.For.{For, for_known, none_given, ForEnv}
-use Rattle.emit_choice_laws.specs.Sizes.{FewInDeclarations}
+use Rattle.emit_laws.specs.Given.{ProperBodiless}
+use Rattle.emit_laws.specs.For.{For, for_known, none_given, ForEnv}
+use Rattle.emit_laws.specs.Sizes.{FewInDeclarations}
 use Rattle.emit_laws.specs.Programs.{CanBeSaid}
 use Rattle.emit_laws.proofs.Names.{used, IsClear, IsBound, clear_const, not_again}
 use Rattle.emit_laws.proofs.Envs.{for_bind, for_functions, AnyBound, arrow_is}

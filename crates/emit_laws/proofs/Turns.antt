@@ -7,11 +7,11 @@ use Rattle.elm_canon.specs.declared.reference.Ref.{Ref}
 use Rattle.elm_canon.specs.declared.reference.Ref.TheVariants as source
 use Rattle.elm_canon.specs.Tree.{Patterns}
 use Rattle.elm_meaning.specs.Values.{Value, Values, CloV, Env}
-use Rattle.elm_proper.specs.Proper.{Scope}
+use Rattle.elm_canon.specs.Proper.{Scope}
 use Rattle.js_tree.specs.Tree.{Name, Made, same_name, JInt, JBool, JText, JVar, JArrow, JBlock, JCall, JBinary, JConditional, JObject, JProperty, JList, JHelper, Stmts, Const, Let, Assign, Return, If, While, Continue, declares}
 use Rattle.js_meaning.specs.Values.{JVal, JCloV, JEnv, JNil, JBind, JLet, JBindRun, JHide, JTurn, run_find, j_find, begins_with, j_assign}
 use Rattle.js_emit.specs.Names.{js_name}
-use Rattle.emit_choice_laws.specs.For.{For, for_wire, for_function, for_started, for_getter, for_known, Started, not_started, one_more, GivenSo, none_given, one_given, ForEnv, agree, ForFound, for_found, for_member}
+use Rattle.emit_laws.specs.For.{For, for_wire, for_function, for_started, for_getter, for_known, Started, not_started, one_more, GivenSo, none_given, one_given, ForEnv, agree, ForFound, for_found, for_member}
 use Rattle.emit_laws.proofs.Names.{name_same}
 
 val_is : {A : Type 0} {a b : A} → Val a ≡ Val b → a ≡ b

@@ -9,7 +9,7 @@ use Rattle.js_meaning.specs.Values.{JVal}
 use Rattle.js_emit.specs.Names.{now}
 use Rattle.js_emit.specs.Loops.{Outside}
 use Rattle.js_emit.specs.Emit.{emit}
-use Rattle.emit_choice_laws.specs.For.{For}
+use Rattle.emit_laws.specs.For.{For}
 use Rattle.emit_laws.specs.Expressions.{JsEval, SameEnd, same_value, same_crash, no_claim_unsafe, no_claim_stuck, ExpressionsAlike}
 use Rattle.emit_laws.proofs.Expressions.{AllMeanSo}
 use Rattle.emit_laws.proofs.Follows.{calls_follow, expressions_follow}

@@ -2,7 +2,7 @@
 use Rattle.std.specs.Prelude.{◌≡◌, ℕ, List, ◌⊎◌}
 use Rattle.runs.specs.Ends.{End, Val, Crashed, OutOfFuel, Unsafe, Stuck, Metered, MVal, MCrashed, MOutOfFuel}
 use Rattle.elm_canon.specs.Tree.{Expr}
-use Rattle.elm_proper.specs.Proper.{Scope, Proper}
+use Rattle.elm_canon.specs.Proper.{Scope, Proper}
 use Rattle.elm_meaning.specs.Values.{Value, Env}
 use Rattle.elm_meaning.specs.Eval.{Eval}
 use Rattle.js_tree.specs.Tree.{Js}
@@ -11,8 +11,8 @@ use Rattle.js_meaning.specs.Eval.{j_eval, j_call, j_loop}
 use Rattle.js_emit.specs.Names.{now}
 use Rattle.js_emit.specs.Loops.{Outside}
 use Rattle.js_emit.specs.Emit.{emit}
-use Rattle.emit_choice_laws.specs.Sizes.{FewParts}
-use Rattle.emit_choice_laws.specs.For.{For, ForEnv}
+use Rattle.emit_laws.specs.Sizes.{FewParts}
+use Rattle.emit_laws.specs.For.{For, ForEnv}
 
 -- what an expression of the output does with that budget
 abbrev pub JsEval : JEnv → Js → ℕ → Metered JVal

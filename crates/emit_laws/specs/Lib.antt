@@ -1,2 +1,10 @@
 pub mod Expressions
 pub mod Programs
+pub mod Fuel
+pub mod Binding
+pub mod Comparing
+pub mod Records
+pub mod Given
+pub mod Sizes
+pub mod For
+pub mod Choosing

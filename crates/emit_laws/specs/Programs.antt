@@ -6,16 +6,16 @@ use Rattle.runs.specs.Trace.{SameRun, IsClaimed}
 use Rattle.elm_canon.specs.Names.{Name}
 use Rattle.elm_canon.specs.declared.reference.Ref.{Ref}
 use Rattle.elm_canon.specs.Tree.{InPort, Declaration, Given, Define}
-use Rattle.elm_proper.specs.Spelled.{are_fields}
-use Rattle.elm_proper.specs.Proper.{Scope, IsIn, AreFresh, with_all}
-use Rattle.elm_proper.specs.Declarations.{ProperDeclarations, after_declarations}
+use Rattle.elm_canon.specs.Spelled.{are_fields}
+use Rattle.elm_canon.specs.Proper.{Scope, IsIn, AreFresh, with_all}
+use Rattle.elm_canon.specs.Declarations.{ProperDeclarations, after_declarations}
 use Rattle.elm_meaning.specs.Functions as functions
 use Rattle.elm_meaning.specs.Functions.{Primitive}
 use Rattle.elm_meaning.specs.Run.{Program, Flags, AnyFlags, FlagsOf, SourceRun}
 use Rattle.js_meaning.specs.Run.{JsRun}
 use Rattle.js_emit.specs.Program.{Emit}
-use Rattle.emit_choice_laws.specs.Given.{ProperPayload, ProperBodiless}
-use Rattle.emit_choice_laws.specs.Sizes.{FewInDeclarations}
+use Rattle.emit_laws.specs.Given.{ProperPayload, ProperBodiless}
+use Rattle.emit_laws.specs.Sizes.{FewInDeclarations}
 
 -- each declaration without a body is one that the output can say
 abbrev pub CanBeSaid : List Declaration → Type 0

@@ -8,7 +8,7 @@ use Rattle.std.proofs.lemmas.Bool.Decides.{nat_tests}
 use Rattle.std.proofs.lemmas.Cmp.{nat_list_cmp_total, same_from_slice_cmp}
 use Rattle.std.proofs.lemmas.List.Sorted.{ranks_by}
 use Rattle.elm_base.proofs.Sorting.{inserted, in_order, sorted_is}
-use Rattle.meaning_base.specs.Texts.{units_lt}
+use Rattle.runs.specs.Texts.{units_lt}
 use Rattle.elm_canon.specs.Names.{Name}
 use Rattle.elm_canon.specs.Tree.{Payload, Declaration, Given, Define, Maker, RecordMaker, OutPort, InPort}
 use Rattle.js_tree.specs.Tree.{Fields, NoField, MoreField}

@@ -11,8 +11,8 @@ use Rattle.elm_meaning.specs.Functions.{Primitive}
 use Rattle.elm_meaning.specs.Run.{Program}
 use Rattle.js_tree.specs.Tree.{Fields, NoField, MoreField}
 use Rattle.js_emit.specs.Codecs.{decoder}
-use Rattle.emit_codecs.specs.Flags.{flags_view}
-use Rattle.emit_operators.specs.Primitives.{primitive_view}
+use Rattle.js_emit.specs.Flags.{flags_view}
+use Rattle.js_emit.specs.Primitives.{primitive_view}
 use Rattle.emit_program.specs.declared.declarations.CoreName.{CoreName}
 use Rattle.emit_program.specs.declared.ports.InPort as ports
 

@@ -2,5 +2,9 @@
 #![tactic(auto)]
 
 pub mod declarations;
+pub mod emit_text_ports;
+pub mod lines;
+pub mod main_line;
+pub mod output;
 mod ports;
 pub mod program;

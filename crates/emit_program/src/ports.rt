@@ -9,11 +9,11 @@ ghost use Rattle.js_tree.specs.Postorder.{MembersOf, trees_of, top, members, mem
 ghost use Rattle.js_emit.specs.Program.{in_decoders, out_names};
 ghost use Rattle.emit_program.specs.Programs.{in_port, in_ports, out_port, out_ports, port_view, decoders_of};
 
+use elm_base::names::Name;
 use elm_base::units::Units;
 use elm_canon::tree::{Declaration, Known, Payload};
-use elm_names::name::Name;
-use emit_codecs::codecs::push_decoder;
-use emit_names::names::units_of;
+use js_emit::codecs::push_decoder;
+use js_emit::names::units_of;
 use js_tree::tree::Node;
 use js_tree::trees::Trees;
 use std::alloc::{AllocError, Global};

@@ -5,7 +5,7 @@ use Rattle.elm_canon.specs.declared.reference.Ref.{Ref}
 use Rattle.elm_canon.specs.Tree as source
 use Rattle.elm_canon.specs.Tree.{Patterns, Expr, Exprs, Apply, Is, NameOf, Accessor, Lambda, Strict}
 use Rattle.elm_canon.specs.Tree.{Logical, Case, Located, Branches, NoBranch, MoreBranch}
-use Rattle.elm_proper.specs.Proper.{count_of}
+use Rattle.elm_canon.specs.Proper.{count_of}
 use Rattle.js_tree.specs.Tree.{Name}
 use Rattle.js_emit.specs.Names.{made_names}
 use Rattle.js_emit.specs.Loops.{Outside, Inside, is_call}

@@ -8,8 +8,8 @@ use Rattle.elm_canon.specs.Tree.{Patterns, NoPattern, MorePattern, Op, TupleOf, 
 use Rattle.elm_canon.specs.Tree.{Binary, Expr, Is, NameOf, Accessor, Lambda, Apply, Strict, Logical, Case, Located, Exprs}
 use Rattle.elm_canon.specs.Tree.{NoExpr, MoreExpr, Branches, NoBranch, MoreBranch, Groups, NoGroup, MoreGroup, Group}
 use Rattle.elm_canon.specs.Tree.{Together, Constant, Destructure, Functions, NoFunction, MoreFunction}
-use Rattle.elm_proper.specs.Proper.{count_of, count_exprs, Scope, with_all, all_bound_by, bound_by, after, group_names, function_names}
-use Rattle.elm_proper.specs.Proper.{Proper, AllProper, ProperBranches, ProperGroups, ProperGroup, ProperFunctions}
+use Rattle.elm_canon.specs.Proper.{count_of, count_exprs, Scope, with_all, all_bound_by, bound_by, after, group_names, function_names}
+use Rattle.elm_canon.specs.Proper.{Proper, AllProper, ProperBranches, ProperGroups, ProperGroup, ProperFunctions}
 use Rattle.js_tree.specs.Tree.{Name, Made, Js, JVar, JCall, JProperty, Stmts, Return, While}
 use Rattle.js_emit.specs.Names.{made_names, now}
 use Rattle.js_emit.specs.Patterns.{made_for, arrows}
@@ -18,8 +18,8 @@ use Rattle.js_emit.specs.Loops.{Loop, Outside, Inside, variables, goes_round, is
 use Rattle.js_emit.specs.Made.{is_loop, loop_of, made_in, made_all, made_round, made_loop, made_function, made_choice}
 use Rattle.js_emit.specs.Made.{made_branches, made_groups, made_group, made_functions}
 use Rattle.js_emit.specs.Emit.{emit, values, calls, go_round, bodies, groups, group, functions, function, looped}
-use Rattle.emit_choice_laws.specs.Sizes.{FewFor, count_branches, FewParts, FewInAll, FewInBranches, FewInGroups, FewInGroup}
-use Rattle.emit_choice_laws.specs.Sizes.{FewInFunctions}
+use Rattle.emit_laws.specs.Sizes.{FewFor, count_branches, FewParts, FewInAll, FewInBranches, FewInGroups, FewInGroup}
+use Rattle.emit_laws.specs.Sizes.{FewInFunctions}
 use Rattle.emit_size_laws.proofs.Lengths.{size, core, core_now, arrow_core, call_size, binary_size, total}
 use Rattle.emit_size_laws.proofs.Frames.{kept, arrows_core, named_core, lets_core, turn_core, cores, chosen_core, chosen_count}
 use Rattle.emit_size_laws.proofs.Anywhere.{made_anywhere}

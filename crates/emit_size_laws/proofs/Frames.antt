@@ -3,7 +3,7 @@ use Rattle.std.proofs.Common.{◌≡◌, ℕ, zero, suc, ◌+◌, ◌≤◌, Lis
 use Rattle.elm_canon.specs.Names as source
 use Rattle.elm_canon.specs.Tree.{Pattern, Anything, Named, As, Exactly, Construct, FieldsOf, LocatedPattern, Patterns}
 use Rattle.elm_canon.specs.Tree.{NoPattern, MorePattern, Branches, NoBranch, MoreBranch}
-use Rattle.elm_proper.specs.Proper.{count_of}
+use Rattle.elm_canon.specs.Proper.{count_of}
 use Rattle.js_tree.specs.Tree.{Name, Local, Made, Js, JVar, JProperty, Stmts, Const}
 use Rattle.js_emit.specs.Names.{made_names}
 use Rattle.js_emit.specs.Patterns.{field_consts, consts, part_consts, made_one, made_for, parameter, parameter_consts, arrows}
@@ -12,7 +12,7 @@ use Rattle.js_emit.specs.Operators.{arrows_of}
 use Rattle.js_emit.specs.Loops.{lets, turn}
 use Rattle.js_emit.specs.Made.{made_choice}
 use Rattle.js_emit.specs.Emit.{numbered, chosen}
-use Rattle.emit_choice_laws.specs.Sizes.{count_branches}
+use Rattle.emit_laws.specs.Sizes.{count_branches}
 use Rattle.emit_size_laws.proofs.Lengths.{core, arrow_core}
 
 -- ---- patterns

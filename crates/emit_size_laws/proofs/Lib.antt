@@ -16,3 +16,14 @@ pub mod Lines
 pub mod Programs
 -- a worked program
 mod Samples
+pub mod Uses
+pub mod Assigned
+pub mod Parts
+pub mod Functions
+pub mod Bound
+pub mod Words
+pub mod Choices
+pub mod Spelled
+pub mod Codecs
+pub mod EmitSubsetLawsLines
+pub mod EmitSubsetLawsSamples

@@ -1,12 +1,12 @@
 -- How long lines are: a unit for each name that is made.
 use Rattle.std.proofs.Common.{◌≡◌, ℕ, suc, ◌+◌, ◌≤◌, ◌<◌, List, [], ◌∷◌, length, Bool, true, false, refl, arith}
 use Rattle.std.specs.Prelude.{codes, pos, if◌then◌else◌}
-use Rattle.meaning_base.specs.Texts.{units_lt}
+use Rattle.runs.specs.Texts.{units_lt}
 use Rattle.elm_canon.specs.Names as source
 use Rattle.elm_canon.specs.Tree.{Known, Maker, RecordMaker, OutPort, InPort, Group, Together, Constant, Destructure}
 use Rattle.elm_canon.specs.Tree.{Functions, NoFunction, MoreFunction, Declaration, Given, Define}
-use Rattle.elm_proper.specs.Proper.{Scope, with_all, all_bound_by, function_names, ProperFunctions, ProperGroup}
-use Rattle.elm_proper.specs.Declarations.{ProperDeclarations, declared_names, is_destructuring}
+use Rattle.elm_canon.specs.Proper.{Scope, with_all, all_bound_by, function_names, ProperFunctions, ProperGroup}
+use Rattle.elm_canon.specs.Declarations.{ProperDeclarations, declared_names, is_destructuring}
 use Rattle.elm_meaning.specs.Functions as functions
 use Rattle.elm_meaning.specs.Functions.{known_arity}
 use Rattle.js_tree.specs.Tree.{Made, Js, JText, JVar, JCall, Fields, NoField, MoreField, Lines, NoLine, MoreLine, Return}
@@ -18,9 +18,9 @@ use Rattle.js_emit.specs.Loops.{Outside}
 use Rattle.js_emit.specs.Made.{made_group, made_functions}
 use Rattle.js_emit.specs.Emit.{emit, function}
 use Rattle.js_emit.specs.Program.{function_lines, group_lines, declaration_lines, put_decoder, in_decoders}
-use Rattle.emit_choice_laws.specs.Sizes.{FewInGroup, FewInFunctions, FewInDeclarations}
+use Rattle.emit_laws.specs.Sizes.{FewInGroup, FewInFunctions, FewInDeclarations}
 use Rattle.emit_laws.specs.Programs.{CanBeSaid}
-use Rattle.emit_subset_laws.specs.Programs.{FewMade}
+use Rattle.emit_size_laws.specs.Programs.{FewMade}
 use Rattle.emit_size_laws.specs.Small.{PortsHaveFields}
 use Rattle.emit_size_laws.proofs.Lengths.{size, core_now, arrow_core, call_size, field_total, six}
 use Rattle.emit_size_laws.proofs.Frames.{named_core}

@@ -11,9 +11,9 @@ use Rattle.elm_canon.specs.declared.unions.Tag.{Tag}
 use Rattle.elm_canon.specs.declared.unions.Tag.TheVariants.{Number, Truth, Blank}
 use Rattle.elm_canon.specs.declared.unions.Alternative.{Alternative}
 use Rattle.elm_canon.specs.Unions.{Union, alternatives}
-use Rattle.elm_proper.specs.Constructors.{same_tag, same_kind, is_exact_tag, is_exact_alternative, has_tag, are_apart}
-use Rattle.elm_proper.specs.Constructors.{is_one_of, is_constructor}
-use Rattle.elm_proper.specs.Proper.{ProperOp}
+use Rattle.elm_canon.specs.Constructors.{same_tag, same_kind, is_exact_tag, is_exact_alternative, has_tag, are_apart}
+use Rattle.elm_canon.specs.Constructors.{is_one_of, is_constructor}
+use Rattle.elm_canon.specs.Proper.{ProperOp}
 use Rattle.js_tree.specs.Tree as js
 use Rattle.js_tree.specs.Tree.{Js, JInt, JBool, JBinary, JHelper, JObject, JsList, NoJs, MoreJs, Fields, Minus, Plus, Times, StrictEquals}
 use Rattle.js_emit.specs.Names.{tagged, parts_from, build_js, fields_js, two}

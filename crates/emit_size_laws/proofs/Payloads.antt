@@ -7,7 +7,7 @@ use Rattle.js_tree.specs.Tree.{DecodeMaybe, DecodeList, DecodeTuple, DecodeRecor
 use Rattle.js_tree.specs.Tree.{EncodeTuple, EncodeRecord}
 use Rattle.js_emit.specs.Names.{one}
 use Rattle.js_emit.specs.Codecs.{decoder, decoders, field_decoders, encoder, encoders, field_encoders}
-use Rattle.emit_choice_laws.specs.Given.{count_payloads, ProperPayload, ProperPayloads, ProperPayloadFields}
+use Rattle.emit_laws.specs.Given.{count_payloads, ProperPayload, ProperPayloads, ProperPayloadFields}
 use Rattle.emit_size_laws.specs.Small.{HasFields, AllHaveFields, FieldsHaveFields}
 use Rattle.emit_size_laws.proofs.Lengths.{size, total, helper_size}
 

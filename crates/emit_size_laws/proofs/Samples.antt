@@ -1,7 +1,7 @@
 -- A worked program with names as their resolution leaves them.
 use Rattle.std.proofs.Common.{rules}
 use Rattle.elm_meaning.specs.Samples.{adder}
-use Rattle.emit_subset_laws.proofs.Samples.{adder_proper, adder_written}
+use Rattle.emit_size_laws.proofs.EmitSubsetLawsSamples.{adder_proper, adder_written}
 use Rattle.emit_size_laws.specs.Small.{NamedProgram}
 
 pub adder_named : NamedProgram adder

@@ -1,2 +1,3 @@
 -- outputs that are not huge
 pub mod Small
+pub mod Programs

@@ -3,15 +3,15 @@ use Rattle.std.specs.Prelude.{◌≡◌, ◌<◌, ℕ, List, [], ◌∷◌, map,
 use Rattle.elm_canon.specs.Tree.{OutPort, InPort, Maker, RecordMaker, Declaration, Given, Define, Payload, IntPayload}
 use Rattle.elm_canon.specs.Tree.{BoolPayload, TextPayload, MaybePayload, ListPayload, TuplePayload, RecordPayload, Payloads}
 use Rattle.elm_canon.specs.Tree.{NoPayload, MorePayload, PayloadFields, NoPayloadField, MorePayloadField}
-use Rattle.elm_proper.specs.Spelled.{are_fields}
-use Rattle.elm_proper.specs.Proper.{IsIn, AreFresh}
-use Rattle.elm_proper.specs.Declarations.{ProperDeclarations, after_declarations}
+use Rattle.elm_canon.specs.Spelled.{are_fields}
+use Rattle.elm_canon.specs.Proper.{IsIn, AreFresh}
+use Rattle.elm_canon.specs.Declarations.{ProperDeclarations, after_declarations}
 use Rattle.elm_meaning.specs.Run.{Program, Flags, AnyFlags, FlagsOf}
 use Rattle.js_tree.specs.Text.{JsText}
 use Rattle.js_emit.specs.Program.{Emit}
-use Rattle.emit_choice_laws.specs.Given.{payload_names}
+use Rattle.emit_laws.specs.Given.{payload_names}
 use Rattle.emit_laws.specs.Programs.{primitive_scope, in_ports, ProperProgram}
-use Rattle.emit_subset_laws.specs.Programs.{AllSpelled, CanBeWritten}
+use Rattle.emit_size_laws.specs.Programs.{AllSpelled, CanBeWritten}
 
 -- ---- names
 

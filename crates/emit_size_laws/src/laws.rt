@@ -11,8 +11,8 @@ ghost use Rattle.js_meaning.specs.Run.{JsRun};
 ghost use Rattle.js_emit.specs.Program.{Emit};
 ghost use Rattle.emit_size_laws.specs.Small.{NamedProgram, IsSmallOutput, SmallIsProper};
 
+use crate::emit_subset_laws::subset_law;
 use emit_laws::laws::meaning_law;
-use emit_subset_laws::laws::subset_law;
 
 /// Nothing in a program is huge where its output is not: with names as their resolution leaves them, it is one that the
 /// laws of what is emitted speak of.

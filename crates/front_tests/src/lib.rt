@@ -5,10 +5,34 @@
 #[cfg(test)]
 mod base;
 #[cfg(test)]
+mod chains;
+#[cfg(test)]
+mod classes;
+#[cfg(test)]
 mod command_words;
 #[cfg(test)]
 mod definition_order;
 #[cfg(test)]
+mod faults;
+#[cfg(test)]
 mod files;
+#[cfg(test)]
+mod modules;
+#[cfg(test)]
+mod orders;
+#[cfg(test)]
+mod paths;
+#[cfg(test)]
+mod project_tests_files;
+#[cfg(test)]
+mod readers;
+#[cfg(test)]
+mod samples;
+#[cfg(test)]
+mod schemes;
+#[cfg(test)]
+mod steps;
+#[cfg(test)]
+mod texts;
 #[cfg(test)]
 mod tokens;

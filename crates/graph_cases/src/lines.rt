@@ -6,9 +6,8 @@ ghost use Rattle.elm_files.specs.Answers.{NoneFull};
 use elm_base::fault::fault_line;
 use elm_base::text::Text;
 use elm_files::{FileError, Files, Got};
+use import_graph::{CrawlEnd, Graph, Heads, crawl};
 use indexmap::IndexSet;
-use module_graph::{CrawlEnd, Graph, crawl};
-use module_heads::Heads;
 use project_file::project::{Project, ProjectError, read};
 use std::alloc::{AllocError, Global};
 

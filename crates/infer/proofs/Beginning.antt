@@ -9,17 +9,17 @@ use Rattle.type_items.specs.Scopes.{Known}
 use Rattle.type_items.specs.Expressions.{definitions}
 use Rattle.type_items.specs.Modules.{known_in, module_definitions, module_scope}
 use Rattle.type_store.proofs.Settling.{empty_whole}
-use Rattle.told_types.specs.Told.{start}
-use Rattle.infer_base.specs.Codes.{Code, State}
-use Rattle.infer_base.specs.Means.{Setting}
-use Rattle.infer_base.specs.Ready.{AreWritten}
+use Rattle.type_walks.specs.Told.{start}
+use Rattle.infer_steps.specs.Codes.{Code, State}
+use Rattle.infer_steps.specs.Means.{Setting}
+use Rattle.infer_steps.specs.Ready.{AreWritten}
 use Rattle.infer_order.specs.Order.{IsSimple, ordered}
 use Rattle.infer_parts.specs.Formed.{FormedGroups}
 use Rattle.infer_parts.specs.Steps.{CanWalk}
 use Rattle.infer.specs.Middle.{AnnotationsOnce, Starts}
-use Rattle.infer_modules.specs.Modules.{CanInfer, root}
+use Rattle.infer.specs.Modules.{CanInfer, root}
 use Rattle.infer.specs.Names.{AllTitled, EachOnce, names_of}
-use Rattle.infer_modules.specs.Modules.{groups_in}
+use Rattle.infer.specs.Modules.{groups_in}
 use Rattle.infer.proofs.Grouping.{formed_once}
 use Rattle.infer.proofs.Proper.{all_defined, all_titled, proper_once, titled_simple}
 

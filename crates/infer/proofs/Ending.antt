@@ -23,23 +23,23 @@ use Rattle.type_store.specs.Shape.{IsStore}
 use Rattle.type_walks.specs.Regions.{Region, none, only, below, span, either, Inside}
 use Rattle.type_walks.specs.Walks.{Walk}
 use Rattle.type_walks.proofs.Regions.{child_in_span, below_in_span, either_inside, none_inside, none_apart}
-use Rattle.told_types.specs.Told.{start}
-use Rattle.type_refusals.specs.Passing.{Passes}
-use Rattle.type_refusals.specs.Failing.{Bad, Fails, FailsAt}
-use Rattle.type_refusals.proofs.Failing.{fails_earlier}
-use Rattle.type_answers.specs.Lasting.{Telling, HasTold, NameHasTold, GroupHasTold}
-use Rattle.type_answers.specs.Laws.{GoesOn}
-use Rattle.type_answers.proofs.Ending.{start_ready}
-use Rattle.type_modules.specs.Groups as modules
-use Rattle.type_modules.specs.Groups.{first_scope, group_places, ModuleAt}
-use Rattle.type_modules.specs.Laws.{ModuleBegins, ModuleEnds}
-use Rattle.infer_base.specs.Codes.{Code, State}
-use Rattle.infer_base.specs.Means.{Setting}
+use Rattle.type_walks.specs.Told.{start}
+use Rattle.type_constructs.specs.Passing.{Passes}
+use Rattle.type_constructs.specs.Failing.{Bad, Fails, FailsAt}
+use Rattle.type_constructs.proofs.Failing.{fails_earlier}
+use Rattle.type_constructs.specs.Lasting.{Telling, HasTold, NameHasTold, GroupHasTold}
+use Rattle.type_constructs.specs.TypeAnswersLaws.{GoesOn}
+use Rattle.type_constructs.proofs.Ending.{start_ready}
+use Rattle.type_constructs.specs.TypeModulesGroups as modules
+use Rattle.type_constructs.specs.TypeModulesGroups.{first_scope, group_places, ModuleAt}
+use Rattle.type_constructs.specs.TypeModulesLaws.{ModuleBegins, ModuleEnds}
+use Rattle.infer_steps.specs.Codes.{Code, State}
+use Rattle.infer_steps.specs.Means.{Setting}
 use Rattle.infer_order.specs.Order.{ordered}
 use Rattle.infer_groups.specs.Defined.{Defined, DefinitionsStop}
 use Rattle.infer_groups.specs.Lets.{listed_names}
 use Rattle.infer_groups.proofs.Members.{take_none, take_all}
-use Rattle.infer_modules.specs.Modules.{root}
+use Rattle.infer.specs.Modules.{root}
 use Rattle.infer.specs.Names.{EachOnce, names_of}
 use Rattle.infer.specs.Told.{Typed}
 use Rattle.infer.specs.Middle.{HasTelling, NameIsTold, GroupHas, GroupsHave, Starts, Begun, Middle}

@@ -19,18 +19,18 @@ use Rattle.type_items.specs.Definitions.{all_uses, type_groups, list_as, list_gr
 use Rattle.type_items.specs.Inferred.{first_annotation}
 use Rattle.type_items.specs.Expressions.{definitions, group_definitions, function_definitions}
 use Rattle.type_walks.specs.Regions.{below}
-use Rattle.infer_base.specs.Codes.{Code, State}
-use Rattle.infer_declared.specs.Titles.{AnnotationOnce}
-use Rattle.infer_declared.proofs.Titles.{all_ordered}
+use Rattle.infer_steps.specs.Codes.{Code, State}
+use Rattle.infer_exprs.specs.Titles.{AnnotationOnce}
+use Rattle.infer_exprs.proofs.Titles.{all_ordered}
 use Rattle.infer_groups.specs.Defined.{Defined, Places, Listing, group_places}
-use Rattle.binding_groups.specs.InOrder.{ordered_groups}
+use Rattle.decl_groups.specs.InOrder.{ordered_groups}
 use Rattle.infer_groups.specs.Members.{at_number, listed_group}
 use Rattle.infer_order.specs.Order.{AreDefinitions, IsDefinition, IsOrder, TitleIs, ordered}
 use Rattle.infer_order.specs.declared.order.Definition.{Definition}
 use Rattle.infer_order.specs.declared.order.Order.{Order}
 use Rattle.infer_parts.specs.Formed.{WrittenOnce, FormedGroup, FormedGroups, FormedFunctions}
 use Rattle.infer_parts.specs.Steps.{CanWalk}
-use Rattle.infer_lets.specs.Finished.{AnnotatedWalked}
+use Rattle.infer_exprs.specs.Finished.{AnnotatedWalked}
 use Rattle.infer.specs.Names.{AllTitled}
 use Rattle.infer.specs.Told.{Typed, GroupIsTold, IsToldAs, written_types}
 use Rattle.infer.specs.Middle.{AnnotationsOnce}

@@ -10,8 +10,8 @@ use Rattle.type_items.specs.Scopes.{Entries, Known, one_type}
 use Rattle.type_items.specs.Annotations.{annotation_scheme}
 use Rattle.type_items.specs.Definitions.{Definition, group_types}
 use Rattle.type_items.specs.Inferred.{first_annotation}
-use Rattle.type_answers.specs.Lasting.{Telling}
-use Rattle.infer_modules.specs.Modules.{root}
+use Rattle.type_constructs.specs.Lasting.{Telling}
+use Rattle.infer.specs.Modules.{root}
 use Rattle.infer.specs.Told.{Typed}
 use Rattle.infer.specs.Middle.{HasTelling, NameIsTold, GroupHas, GroupsHave}
 

@@ -13,3 +13,13 @@ pub mod Grouping
 pub mod Reopened
 pub mod Ending
 pub mod Beginning
+pub mod Saying
+pub mod Stopping
+-- the first entry of a name
+pub mod InferKnownLooking
+-- types of constructors
+pub mod Making
+-- types that can be written into a store
+pub mod Writing
+-- the types of annotations have no constants
+pub mod InferModulesWritten

@@ -9,7 +9,7 @@ use Rattle.std.proofs.lemmas.Map.Entries.{lookup_head, lookup_tail}
 use Rattle.elm_canon.specs.Names.{same_ref}
 use Rattle.elm_canon.specs.declared.reference.Ref.{Ref}
 use Rattle.decl_groups.proofs.Basics.{no_member, first_member, later_member, member_cases}
-use Rattle.infer_base.proofs.Scoping.{one_ref}
+use Rattle.infer_steps.proofs.Scoping.{one_ref}
 use Rattle.infer.specs.Names.{EachOnce}
 use Rattle.infer.proofs.Refs.{ref_itself}
 

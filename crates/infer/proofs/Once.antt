@@ -10,11 +10,11 @@ use Rattle.std.proofs.lemmas.List.{length-map}
 use Rattle.elm_canon.specs.declared.reference.Ref.{Ref}
 use Rattle.decl_groups.specs.Groups.{list_at}
 use Rattle.decl_groups.proofs.Basics.{no_member, first_member, later_member, member_cases}
-use Rattle.binding_groups.specs.InOrder.{ordered_groups, AreWithin}
-use Rattle.binding_groups.specs.View.{StandOnce, joined}
-use Rattle.binding_groups.proofs.Reaching.{use_is}
-use Rattle.binding_groups.proofs.Standing.{once_told}
-use Rattle.group_order.proofs.Ordering.{order_is}
+use Rattle.decl_groups.specs.InOrder.{ordered_groups, AreWithin}
+use Rattle.decl_groups.specs.View.{StandOnce, joined}
+use Rattle.decl_groups.proofs.Reaching.{use_is}
+use Rattle.decl_groups.proofs.Standing.{once_told}
+use Rattle.decl_groups.proofs.Ordering.{order_is}
 use Rattle.type_items.specs.Definitions.{Definition, stands_before, insert_definition, in_written_order, used_places}
 use Rattle.type_items.specs.Definitions.{all_uses, type_groups}
 use Rattle.infer_order.proofs.Rows.{places_below, rows_below}

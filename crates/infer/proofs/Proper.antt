@@ -9,17 +9,17 @@ use Rattle.elm_canon.specs.Names.{same_ref}
 use Rattle.elm_canon.specs.declared.reference.Ref.{Ref}
 use Rattle.elm_canon.specs.Tree.{Group, Together, Constant, Destructure, Functions}
 use Rattle.elm_canon.specs.Tree.{NoFunction, MoreFunction, Declaration, Given, Define, groups_of}
-use Rattle.elm_proper.specs.Proper.{Scope, among, with_all, AreFresh, group_names, function_names, ProperGroup}
-use Rattle.elm_proper.specs.Declarations.{ProperDeclarations, is_destructuring}
+use Rattle.elm_canon.specs.Proper.{Scope, among, with_all, AreFresh, group_names, function_names, ProperGroup}
+use Rattle.elm_canon.specs.Declarations.{ProperDeclarations, is_destructuring}
 use Rattle.decl_groups.proofs.Basics.{no_member, member_cases}
 use Rattle.type_items.specs.Definitions.{Definition, in_written_order, all_uses}
 use Rattle.type_items.specs.Expressions.{definitions, group_definitions, function_definitions}
 use Rattle.type_items.specs.Modules.{definitions_in}
-use Rattle.binding_groups.specs.InOrder.{ordered_groups}
+use Rattle.decl_groups.specs.InOrder.{ordered_groups}
 use Rattle.infer_order.specs.Order.{group_list, IsSimple, HasTitle, StandsAlone, Spots}
 use Rattle.infer_order.specs.Spots.{has_titles}
 use Rattle.infer.specs.Names.{EachOnce, names_of, AllTitled}
-use Rattle.infer_modules.specs.Modules.{groups_in}
+use Rattle.infer.specs.Modules.{groups_in}
 use Rattle.infer.proofs.Refs.{ref_itself}
 use Rattle.infer.proofs.Once.{once_both}
 

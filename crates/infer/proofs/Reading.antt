@@ -8,11 +8,11 @@ use Rattle.type_items.specs.Scopes.{Entry, Entries, Mono, Instance, General}
 use Rattle.type_store.specs.Store.{Store}
 use Rattle.type_store.specs.Shape.{IsStore}
 use Rattle.type_walks.specs.Links.{Links, Within}
-use Rattle.told_types.specs.Told.{Told}
-use Rattle.type_answers.specs.Lasting.{Telling, IsTold}
+use Rattle.type_walks.specs.Told.{Told}
+use Rattle.type_constructs.specs.Lasting.{Telling, IsTold}
 use Rattle.type_schemes.specs.Schemes.{place_of, number_of}
-use Rattle.told_reading.specs.Laws.{ReadIsTold, SchemeIsOrdered}
-use Rattle.infer_base.specs.Ready.{IsWritten}
+use Rattle.type_constructs.specs.Laws.{ReadIsTold, SchemeIsOrdered}
+use Rattle.infer_steps.specs.Ready.{IsWritten}
 use Rattle.infer_groups.specs.Members.{Named, AreNamed}
 use Rattle.infer.specs.Told.{Typed, HasItsScheme}
 use Rattle.infer.specs.Middle.{NameIsTold}

@@ -16,7 +16,7 @@ use Rattle.type_walks.specs.Regions.{Region}
 use Rattle.type_walks.specs.Links.{Links, Live, AreLive}
 use Rattle.type_walks.specs.Walks.{Around}
 use Rattle.type_walks.specs.Progress.{Stands}
-use Rattle.type_refusals.specs.Failing.{Bad, Same, InClass, Lacks, Keeps, Large, Shows, IsBad, FailsAt}
+use Rattle.type_constructs.specs.Failing.{Bad, Same, InClass, Lacks, Keeps, Large, Shows, IsBad, FailsAt}
 
 -- ---- the store with one variable more
 

@@ -23,31 +23,31 @@ use Rattle.type_walks.specs.Links.{Links}
 use Rattle.type_walks.specs.Walks.{Walk}
 use Rattle.type_walks.proofs.Linking.{right_inside}
 use Rattle.type_walks.proofs.Walking.{widens}
-use Rattle.told_types.specs.Told.{start}
-use Rattle.type_copies.specs.Laws.{deeper}
-use Rattle.type_refusals.specs.Passing.{Passes}
-use Rattle.principal_types.proofs.Matching.{all_both}
-use Rattle.type_answers.specs.Lasting.{Telling}
-use Rattle.type_modules.specs.Groups.{groups_of, group_places, ModuleAt}
-use Rattle.type_modules.specs.Laws.{ModuleGoesOn, ModuleTells}
-use Rattle.told_reading.specs.Laws.{ReadIsTold, SchemeIsOrdered}
-use Rattle.infer_base.specs.Codes.{Code, State}
-use Rattle.infer_base.specs.Means.{Setting}
-use Rattle.infer_base.specs.Ready.{IsWritten}
-use Rattle.infer_annotations.specs.Fixing.{numbered, IsAnnotation}
-use Rattle.infer_annotations.specs.Once.{FieldsOnce}
-use Rattle.infer_annotations.proofs.Topmost.{kept_is_scheme, kept_is_written}
+use Rattle.type_walks.specs.Told.{start}
+use Rattle.type_walks.specs.TypeCopiesLaws.{deeper}
+use Rattle.type_constructs.specs.Passing.{Passes}
+use Rattle.type_items.proofs.Matching.{all_both}
+use Rattle.type_constructs.specs.Lasting.{Telling}
+use Rattle.type_constructs.specs.TypeModulesGroups.{groups_of, group_places, ModuleAt}
+use Rattle.type_constructs.specs.TypeModulesLaws.{ModuleGoesOn, ModuleTells}
+use Rattle.type_constructs.specs.Laws.{ReadIsTold, SchemeIsOrdered}
+use Rattle.infer_steps.specs.Codes.{Code, State}
+use Rattle.infer_steps.specs.Means.{Setting}
+use Rattle.infer_steps.specs.Ready.{IsWritten}
+use Rattle.infer_types.specs.Fixing.{numbered, IsAnnotation}
+use Rattle.infer_types.specs.Once.{FieldsOnce}
+use Rattle.infer_types.proofs.Topmost.{kept_is_scheme, kept_is_written}
 use Rattle.infer_order.specs.Order.{IsTitled}
 use Rattle.infer_groups.specs.Members.{AreNamed, GroupAt}
 use Rattle.infer_groups.proofs.Members.{take_one, take_count}
-use Rattle.infer_modules.specs.Modules.{root}
+use Rattle.infer.specs.Modules.{root}
 use Rattle.infer.specs.Names.{names_of}
 use Rattle.infer.specs.Told.{Typed, NamesTold, IsToldAs, GroupIsTold, written_types}
 use Rattle.infer.specs.Middle.{GroupHas, GroupsHave, Middle}
 use Rattle.infer.proofs.Lists.{cut, enumerated, mapped, map_append}
 use Rattle.infer.proofs.Keeping.{groups_still, group_still}
 use Rattle.infer.proofs.Reading.{tellings_of, all_told, all_have, names_same, all_written}
-use Rattle.infer_modules.proofs.Written.{written_renamed}
+use Rattle.infer.proofs.InferModulesWritten.{written_renamed}
 
 -- ---- definitions with titles
 

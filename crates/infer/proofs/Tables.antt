@@ -8,8 +8,8 @@ use Rattle.elm_canon.specs.declared.reference.Ref.{Ref}
 use Rattle.elm_canon.specs.declared.reference.Ref.TheVariants.{Local, Top}
 use Rattle.elm_type.specs.View.{scheme_view}
 use Rattle.elm_type.specs.declared.scheme.Scheme.{Scheme}
-use Rattle.infer_base.specs.Keys.{same_pair}
-use Rattle.infer_base.proofs.Scoping.{same_back}
+use Rattle.infer_steps.specs.Keys.{same_pair}
+use Rattle.infer_steps.proofs.Scoping.{same_back}
 use Rattle.infer.specs.Types.{schemes_of}
 use Rattle.infer.specs.declared.types.Types.{Types}
 

@@ -12,22 +12,22 @@ use Rattle.type_store.specs.Shape.{IsStore, parts_of}
 use Rattle.type_store.specs.Steps.{is_bound}
 use Rattle.type_walks.specs.Links.{Within}
 use Rattle.type_walks.proofs.Cleaning.{constant_there}
-use Rattle.type_order.specs.Ends.{end_of}
-use Rattle.type_reading.specs.Reading.{Graph, Reads, read_row, read_cell}
-use Rattle.type_reading.specs.Bases.{type_in}
-use Rattle.told_types.specs.Told as told_types
-use Rattle.principal_types.proofs.Matching.{all_first, all_second, all_both}
-use Rattle.principal_types.proofs.Orders.{OfLeaf, variables_renamed}
-use Rattle.principal_types.proofs.Members.{Member}
-use Rattle.principal_types.proofs.Renaming.{members, new_kind}
+use Rattle.type_schemes.specs.Ends.{end_of}
+use Rattle.type_schemes.specs.Reading.{Graph, Reads, read_row, read_cell}
+use Rattle.type_schemes.specs.Bases.{type_in}
+use Rattle.type_walks.specs.Told as told_types
+use Rattle.type_items.proofs.Matching.{all_first, all_second, all_both}
+use Rattle.type_items.proofs.Orders.{OfLeaf, variables_renamed}
+use Rattle.type_items.proofs.Members.{Member}
+use Rattle.type_items.proofs.Renaming.{members, new_kind}
 use Rattle.type_schemes.specs.Schemes.{in_store, scheme_of, HasScheme}
-use Rattle.told_reading.specs.Laws.{ReadIsTold}
-use Rattle.told_reading.proofs.Parts.{of_listed}
-use Rattle.told_reading.proofs.Inserting.{extended_variables}
-use Rattle.told_reading.proofs.Renamed.{Keeps, formed_same}
-use Rattle.told_reading.proofs.Orders.{place_below}
-use Rattle.infer_base.specs.Ready.{IsBelow, IsWritten}
-use Rattle.infer_modules.proofs.Written.{IsFree, AllFree}
+use Rattle.type_constructs.specs.Laws.{ReadIsTold}
+use Rattle.type_constructs.proofs.ToldReadingParts.{of_listed}
+use Rattle.type_constructs.proofs.Inserting.{extended_variables}
+use Rattle.type_constructs.proofs.Renamed.{Keeps, formed_same}
+use Rattle.type_constructs.proofs.Orders.{place_below}
+use Rattle.infer_steps.specs.Ready.{IsBelow, IsWritten}
+use Rattle.infer.proofs.InferModulesWritten.{IsFree, AllFree}
 
 -- ---- of a store without constants
 

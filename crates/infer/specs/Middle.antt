@@ -12,16 +12,16 @@ use Rattle.type_items.specs.Expressions.{definitions}
 use Rattle.type_items.specs.Inferred.{first_annotation}
 use Rattle.type_items.specs.Modules.{known_in, module_definitions, module_scope}
 use Rattle.type_store.specs.Store.{Store}
-use Rattle.told_types.specs.Told.{start}
-use Rattle.type_refusals.specs.Failing.{Bad, FailsAt}
-use Rattle.type_answers.specs.Lasting.{Telling}
-use Rattle.type_modules.specs.Groups as modules
-use Rattle.type_modules.specs.Groups.{first_scope, ModuleAt}
-use Rattle.infer_base.specs.Codes.{Code, State}
-use Rattle.infer_base.specs.Means.{Setting}
-use Rattle.infer_base.specs.Ready.{IsWritten}
-use Rattle.infer_declared.specs.Titles.{AnnotationOnce}
-use Rattle.infer_modules.specs.Modules.{root}
+use Rattle.type_walks.specs.Told.{start}
+use Rattle.type_constructs.specs.Failing.{Bad, FailsAt}
+use Rattle.type_constructs.specs.Lasting.{Telling}
+use Rattle.type_constructs.specs.TypeModulesGroups as modules
+use Rattle.type_constructs.specs.TypeModulesGroups.{first_scope, ModuleAt}
+use Rattle.infer_steps.specs.Codes.{Code, State}
+use Rattle.infer_steps.specs.Means.{Setting}
+use Rattle.infer_steps.specs.Ready.{IsWritten}
+use Rattle.infer_exprs.specs.Titles.{AnnotationOnce}
+use Rattle.infer.specs.Modules.{root}
 use Rattle.infer.specs.Names.{names_of}
 use Rattle.infer.specs.Told.{Typed}
 

@@ -12,7 +12,7 @@ use Rattle.type_items.specs.Definitions.{Definition, list_group}
 use Rattle.type_items.specs.Inferred.{first_annotation}
 use Rattle.type_store.specs.Store.{Store}
 use Rattle.type_schemes.specs.Schemes.{HasScheme}
-use Rattle.infer_base.specs.Codes.{Code, State}
+use Rattle.infer_steps.specs.Codes.{Code, State}
 use Rattle.infer_groups.specs.Defined.{Defined, group_places}
 use Rattle.infer_groups.specs.Members.{Named, GroupDone}
 use Rattle.infer.specs.declared.told.Told.{Told}

@@ -6,7 +6,7 @@ use Rattle.elm_canon.specs.declared.reference.Ref.{Ref}
 use Rattle.elm_canon.specs.declared.reference.Ref.TheVariants.{Local, Top}
 use Rattle.elm_type.specs.Types.{Scheme}
 use Rattle.elm_type.specs.View.{scheme_view}
-use Rattle.infer_base.specs.Keys.{same_pair}
+use Rattle.infer_steps.specs.Keys.{same_pair}
 use Rattle.infer.specs.declared.types.Types.{Types}
 
 unfoldable pub schemes_of : Types → Ref → Option Scheme

@@ -2,7 +2,7 @@
 
 ghost use Rattle.std.specs.Prelude.{◌≡◌, ◌++◌, map, flat_map, IfOk, OnOk};
 ghost use Rattle.elm_canon.specs.View.{group_view, declaration_view};
-ghost use Rattle.infer_modules.specs.Modules.{groups_in};
+ghost use Rattle.infer.specs.Modules.{groups_in};
 
 use elm_canon::tree::{Declaration, Group};
 use std::alloc::{AllocError, Global};

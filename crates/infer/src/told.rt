@@ -16,16 +16,16 @@ ghost use Rattle.infer_order.specs.Order.{AreDefinitions, IsDefinition, TitleIs}
 ghost use Rattle.infer.specs.Names.{AllTitled, names_of};
 ghost use Rattle.infer.specs.Told.{AddsSchemes, told_views, written_types};
 
-use annotation_schemes::written::{Written, written_scheme};
+use crate::infer_known_types::copy_scheme;
 use elm_canon::reference::Ref;
 use elm_canon::tree::{Annotation, Title};
 use elm_type::rename;
 use elm_type::scheme::Scheme;
 use infer_groups::names::Named;
-use infer_known::types::copy_scheme;
 use infer_order::order::Definition;
 use std::alloc::{AllocError, Global};
 use type_schemes::schemes::scheme;
+use type_schemes::written::{Written, written_scheme};
 use type_store::store::Store;
 
 /// A name with its type.

@@ -6,8 +6,8 @@ ghost use Rattle.elm_canon.specs.declared.reference.Ref.{Ref as PlainRef};
 ghost use Rattle.elm_type.specs.View.{scheme_view};
 ghost use Rattle.infer.specs.Types.{schemes_of};
 
+use elm_base::names::Name;
 use elm_canon::reference::Ref;
-use elm_names::name::Name;
 use elm_type::scheme::Scheme;
 use indexmap::IndexMap;
 use std::alloc::{AllocError, Global};

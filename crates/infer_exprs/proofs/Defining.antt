@@ -16,16 +16,16 @@ use Rattle.elm_canon.proofs.Views as view
 use Rattle.type_items.specs.Uses.{used}
 use Rattle.type_items.specs.Definitions.{Definition}
 use Rattle.type_items.specs.Expressions.{items, function_items, titled, function_definitions}
-use Rattle.infer_annotations.specs.Once.{FieldsOnce}
+use Rattle.infer_types.specs.Once.{FieldsOnce}
 use Rattle.infer_order.specs.Spots.{in_group, at_spot, has_titles}
 use Rattle.infer_order.specs.Order.{TitleIs, IsTitled, IsDefinition, AreDefinitions}
 use Rattle.infer_order.specs.declared.order.Definition.{Definition as Stands}
-use Rattle.infer_declared.specs.Titles.{title_list, titles_of, AnnotationOnce, AnnotationsOnce}
+use Rattle.infer_exprs.specs.Titles.{title_list, titles_of, AnnotationOnce, AnnotationsOnce}
 use Rattle.infer_patterns.specs.Once.{EachFieldsOnce}
 use Rattle.infer_parts.specs.Formed.{WrittenOnce, Formed, FormedGroups, FormedGroup, FormedFunctions}
 use Rattle.infer_parts.specs.Parts.{function_of}
-use Rattle.infer_lets.specs.First.{HasDefinition, StartsAt, IsAnnotated, IsPattern}
-use Rattle.infer_lets.proofs.Grouping.{some_same, at_number}
+use Rattle.infer_exprs.specs.First.{HasDefinition, StartsAt, IsAnnotated, IsPattern}
+use Rattle.infer_exprs.proofs.Grouping.{some_same, at_number}
 
 abbrev pub views : List (Bor Stored) → List Group
 views gs = map (λ (g : Bor Stored). group_view g.now) gs

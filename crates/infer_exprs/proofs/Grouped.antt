@@ -6,7 +6,7 @@ use Rattle.std.specs.Prelude.{slice_get, is_some}
 use Rattle.std.specs.List.{filter_map}
 use Rattle.std.proofs.Math.Path.{fun_ext}
 use Rattle.std.proofs.lemmas.List.{length-map}
-use Rattle.binding_groups.specs.InOrder.{ordered_groups}
+use Rattle.decl_groups.specs.InOrder.{ordered_groups}
 use Rattle.elm_base.specs.declared.position.Pos.{Pos}
 use Rattle.elm_canon.specs.Tree.{Annotation, Group, Destructure, groups_of}
 use Rattle.type_items.specs.Items.{child, Wanted}
@@ -15,12 +15,12 @@ use Rattle.type_items.specs.Definitions.{list_definitions}
 use Rattle.type_items.specs.Expressions.{definitions, group_definitions}
 use Rattle.type_store.proofs.Solution.{choice_fits}
 use Rattle.type_walks.specs.Regions.{none, below}
-use Rattle.type_copies.proofs.Saying.{says_later, says_with_more}
-use Rattle.told_types.proofs.Telling.{tells_principal}
-use Rattle.type_refusals.specs.Failing.{Bad, Large}
-use Rattle.infer_base.specs.Codes.{Code, State}
-use Rattle.infer_base.specs.Leaving.{without}
-use Rattle.infer_base.specs.Ready.{IsReady}
+use Rattle.type_walks.proofs.Saying.{says_later, says_with_more}
+use Rattle.type_walks.proofs.Telling.{tells_principal}
+use Rattle.type_constructs.specs.Failing.{Bad, Large}
+use Rattle.infer_steps.specs.Codes.{Code, State}
+use Rattle.infer_steps.specs.Leaving.{without}
+use Rattle.infer_steps.specs.Ready.{IsReady}
 use Rattle.infer_order.specs.Spots.{at_spot}
 use Rattle.infer_order.specs.Order.{ordered, IsDefinition, AreDefinitions, IsOrder}
 use Rattle.infer_order.specs.declared.order.Definition.{Definition as Stands}
@@ -36,21 +36,21 @@ use Rattle.infer_groups.specs.declared.groups.Opened.{Opened}
 use Rattle.infer_groups.specs.declared.names.Named.{Named as StoredName}
 use Rattle.infer_groups.proofs.Members.{one_more, member_stops, member_large, all_done}
 use Rattle.infer_groups.proofs.Turning.{defines_none, defines_one_more, defines_all, stops_at_names, stops_at_group}
-use Rattle.infer_annotated.specs.Annotated.{inside_of, listed_annotated, AnnotationAsked, AnnotatedDone, BodyStops}
-use Rattle.infer_annotated.proofs.Opening.{constants_ready}
-use Rattle.infer_annotated.proofs.Walking.{body_done}
-use Rattle.infer_annotated.proofs.Clearing.{clear_later, clear_opened}
-use Rattle.infer_declared.specs.Beginning.{AnnotatedOpens}
+use Rattle.infer_groups.specs.Annotated.{inside_of, listed_annotated, AnnotationAsked, AnnotatedDone, BodyStops}
+use Rattle.infer_groups.proofs.Opening.{constants_ready}
+use Rattle.infer_groups.proofs.Walking.{body_done}
+use Rattle.infer_groups.proofs.Clearing.{clear_later, clear_opened}
+use Rattle.infer_exprs.specs.Beginning.{AnnotatedOpens}
 use Rattle.infer_parts.specs.Steps.{CanWalk, one, Went, Stuck}
 use Rattle.infer_parts.proofs.Going.{ready_on, walked_went, stopped_stuck}
 use Rattle.infer_parts.proofs.Placing.{moved, can_on}
-use Rattle.infer_lets.specs.Members.{IsTypeGroup}
-use Rattle.infer_lets.specs.Finished.{first_annotation, GroupDefined, GroupStops, InferredStops, AnnotatedDefined}
-use Rattle.infer_lets.specs.Finished.{AnnotatedStops, AnnotatedWalked, InferredWalked, GroupWalked, CanFinish}
-use Rattle.infer_lets.specs.First.{IsAnnotated, IsPattern}
-use Rattle.infer_lets.proofs.Grouping.{some_same}
-use Rattle.infer_lets.proofs.Closed.{inferred_stops}
-use Rattle.infer_lets.proofs.Grouping as grouping
+use Rattle.infer_exprs.specs.Members.{IsTypeGroup}
+use Rattle.infer_exprs.specs.Finished.{first_annotation, GroupDefined, GroupStops, InferredStops, AnnotatedDefined}
+use Rattle.infer_exprs.specs.Finished.{AnnotatedStops, AnnotatedWalked, InferredWalked, GroupWalked, CanFinish}
+use Rattle.infer_exprs.specs.First.{IsAnnotated, IsPattern}
+use Rattle.infer_exprs.proofs.Grouping.{some_same}
+use Rattle.infer_exprs.proofs.Closed.{inferred_stops}
+use Rattle.infer_exprs.proofs.Grouping as grouping
 use Rattle.std.proofs.lemmas.Option.{slice_get-map}
 use Rattle.std.specs.Prelude.{option_map}
 

@@ -5,12 +5,12 @@ use Rattle.elm_canon.specs.Tree.{Groups, Expr, Let}
 use Rattle.type_items.specs.Items.{child, Wanted}
 use Rattle.type_items.specs.Definitions.{list_definitions}
 use Rattle.type_items.specs.Expressions.{definitions}
-use Rattle.type_refusals.specs.Failing.{Bad}
+use Rattle.type_constructs.specs.Failing.{Bad}
 use Rattle.type_walks.specs.Regions.{below}
-use Rattle.infer_base.specs.Codes.{Code, State}
-use Rattle.infer_base.specs.Promises.{Walked}
-use Rattle.infer_base.specs.Ready.{Follows}
-use Rattle.infer_base.proofs.Staying.{follows_on}
+use Rattle.infer_steps.specs.Codes.{Code, State}
+use Rattle.infer_steps.specs.Promises.{Walked}
+use Rattle.infer_steps.specs.Ready.{Follows}
+use Rattle.infer_steps.proofs.Staying.{follows_on}
 use Rattle.infer_groups.specs.Defined.{Defined, DefinitionsStop, at_child}
 use Rattle.infer_groups.specs.Defined as groups
 use Rattle.infer_groups.proofs.Lets.{let_is_walked, let_stops, body_stops}

@@ -19,21 +19,21 @@ use Rattle.type_walks.specs.Links.{Links, Has, Within}
 use Rattle.type_walks.specs.Walks.{Around, Walk}
 use Rattle.type_walks.proofs.Linking.{right_inside}
 use Rattle.type_walks.proofs.Regions.{child_in_span, span_in_below}
-use Rattle.type_copies.specs.Frozen.{Frozen}
-use Rattle.type_copies.specs.Laws.{SaysLater}
-use Rattle.type_copies.specs.Says.{Says}
-use Rattle.type_scopes.specs.Constants.{Outer}
-use Rattle.type_freezing.specs.Freezing.{IsFrozen}
-use Rattle.type_freezing.proofs.Keeping.{frozen_live, frozen_can}
-use Rattle.type_refusals.specs.Passing.{NoSizes}
-use Rattle.type_refusals.proofs.Passing.{passes_widely, passes_inside}
-use Rattle.type_definitions.proofs.Grouping.{closes_group, says_group}
-use Rattle.infer_base.specs.Codes.{Many, Code, State}
-use Rattle.infer_base.specs.Ready.{IsReady}
-use Rattle.infer_base.specs.Means.{MeansEntry, MeansConstant, Means, Setting}
-use Rattle.infer_base.proofs.Entering.{ready_enters}
-use Rattle.infer_base.proofs.Scoping.{one_ref}
-use Rattle.infer_base.proofs.Staying.{means_later, setting_later}
+use Rattle.type_walks.specs.Frozen.{Frozen}
+use Rattle.type_walks.specs.TypeCopiesLaws.{SaysLater}
+use Rattle.type_walks.specs.Says.{Says}
+use Rattle.type_schemes.specs.Constants.{Outer}
+use Rattle.type_schemes.specs.Freezing.{IsFrozen}
+use Rattle.type_schemes.proofs.Keeping.{frozen_live, frozen_can}
+use Rattle.type_constructs.specs.Passing.{NoSizes}
+use Rattle.type_constructs.proofs.Passing.{passes_widely, passes_inside}
+use Rattle.type_constructs.proofs.Grouping.{closes_group, says_group}
+use Rattle.infer_steps.specs.Codes.{Many, Code, State}
+use Rattle.infer_steps.specs.Ready.{IsReady}
+use Rattle.infer_steps.specs.Means.{MeansEntry, MeansConstant, Means, Setting}
+use Rattle.infer_steps.proofs.Entering.{ready_enters}
+use Rattle.infer_steps.proofs.Scoping.{one_ref}
+use Rattle.infer_steps.proofs.Staying.{means_later, setting_later}
 use Rattle.infer_groups.specs.Defined.{Defined, group_places}
 use Rattle.infer_groups.specs.Members.{Named, AreNamed, GroupAt, GroupDone, listed_group, at_number}
 use Rattle.infer_groups.specs.General.{Generalised, with_general, AreFrozen}

@@ -10,15 +10,15 @@ use Rattle.type_store.specs.Store.{Store}
 use Rattle.type_walks.specs.Links.{Links, Live, AreLive}
 use Rattle.type_walks.specs.Walks.{Around}
 use Rattle.type_walks.proofs.Linking.{later_itself}
-use Rattle.type_copies.specs.Frozen.{Frozen}
-use Rattle.type_copies.specs.Laws.{deeper}
-use Rattle.type_copies.specs.Says.{Says}
-use Rattle.type_scopes.specs.Constants.{Outer}
-use Rattle.infer_base.specs.Codes.{Meaning, One, Many, Each, Code, State}
-use Rattle.infer_base.specs.Ready.{MeaningReady, IsReady, Follows}
-use Rattle.infer_base.specs.Means.{MeansEntry, Means, Setting}
-use Rattle.infer_base.proofs.Copying.{outer_live}
-use Rattle.infer_base.proofs.Staying.{around_child}
+use Rattle.type_walks.specs.Frozen.{Frozen}
+use Rattle.type_walks.specs.TypeCopiesLaws.{deeper}
+use Rattle.type_walks.specs.Says.{Says}
+use Rattle.type_schemes.specs.Constants.{Outer}
+use Rattle.infer_steps.specs.Codes.{Meaning, One, Many, Each, Code, State}
+use Rattle.infer_steps.specs.Ready.{MeaningReady, IsReady, Follows}
+use Rattle.infer_steps.specs.Means.{MeansEntry, Means, Setting}
+use Rattle.infer_steps.proofs.Copying.{outer_live}
+use Rattle.infer_steps.proofs.Staying.{around_child}
 use Rattle.infer_groups.specs.Defined.{inside}
 
 pub live_deeper : (d : ℕ) (s : Store) (v : ℕ) → Live d s v → Live (d + 1) s v

@@ -10,9 +10,9 @@ use Rattle.std.specs.Borrow.{Bor}
 use Rattle.elm_canon.specs.declared.tree.Title.{Title}
 use Rattle.type_items.specs.Definitions.{Definition}
 use Rattle.type_store.specs.Store.{Store}
-use Rattle.type_freezing.specs.Freezing.{IsFrozen}
-use Rattle.type_freezing.specs.View.{frozen_view}
-use Rattle.infer_base.specs.Codes.{Code, One, Many, with_meaning}
+use Rattle.type_schemes.specs.Freezing.{IsFrozen}
+use Rattle.type_schemes.specs.View.{frozen_view}
+use Rattle.infer_steps.specs.Codes.{Code, One, Many, with_meaning}
 use Rattle.infer_groups.specs.Members as members
 use Rattle.infer_groups.specs.Members.{with_named, IsTitledAs, AreTitled}
 use Rattle.infer_groups.specs.General.{Generalised, with_general, AreFrozen}

@@ -7,14 +7,14 @@ use Rattle.type_items.specs.Definitions.{list_definitions}
 use Rattle.type_items.specs.Expressions.{items, definitions}
 use Rattle.type_walks.specs.Links.{Links}
 use Rattle.type_walks.specs.Walks.{Around}
-use Rattle.type_refusals.specs.Passing.{Passes}
+use Rattle.type_constructs.specs.Passing.{Passes}
 use Rattle.type_constructs.specs.Stepping.{Step}
 use Rattle.type_constructs.proofs.Spots.{Here, Child, Below, In}
 use Rattle.type_constructs.proofs.Stops.{past, stuck, ends, stopped}
 use Rattle.type_constructs.proofs.Walking.{walks_let}
-use Rattle.infer_base.specs.Codes.{Code, State}
-use Rattle.infer_base.specs.Means.{Setting}
-use Rattle.infer_base.proofs.Staying.{around_child, setting_child}
+use Rattle.infer_steps.specs.Codes.{Code, State}
+use Rattle.infer_steps.specs.Means.{Setting}
+use Rattle.infer_steps.proofs.Staying.{around_child, setting_child}
 use Rattle.infer_groups.specs.Defined.{Defined, at_child, moved}
 use Rattle.infer_groups.specs.Lets.{LetIsWalked, LetStops, BodyStops}
 use Rattle.type_walks.specs.Regions.{below}

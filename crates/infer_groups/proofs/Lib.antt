@@ -14,3 +14,19 @@ pub mod Lets
 pub mod Entering
 -- a group that is one pattern with its value
 pub mod Patterns
+-- constants come into scope
+pub mod Opening
+-- a store whose constants were let go
+pub mod Following
+-- the definition is done
+pub mod InferAnnotatedClosing
+-- its body
+pub mod Walking
+-- its constants are made
+pub mod Built
+-- no constant is of a place below
+pub mod Clearing
+-- its end
+pub mod Ending
+-- the variables of an annotation are different ones
+pub mod Apart

@@ -14,25 +14,25 @@ use Rattle.type_walks.proofs.Regions.{apart_none, none_inside}
 use Rattle.type_walks.proofs.Linking.{right_inside}
 use Rattle.type_walks.specs.Links.{Links, Live, AreLive, Has}
 use Rattle.type_walks.specs.Walks.{Around, Walk}
-use Rattle.type_copies.specs.Laws.{SaysLater, SaysWithMore, deeper}
-use Rattle.told_types.specs.Laws.{TellsPrincipal}
-use Rattle.type_refusals.specs.Passing.{Passes}
-use Rattle.type_freezing.specs.Freezing.{ConstantsAround}
-use Rattle.type_refusals.specs.Failing.{Large, Bad, Fails}
-use Rattle.type_refusals.proofs.Passing.{passes_small}
-use Rattle.type_refusals.proofs.Failing.{fails_after, fails_earlier, fails_inside, fails_large}
+use Rattle.type_walks.specs.TypeCopiesLaws.{SaysLater, SaysWithMore, deeper}
+use Rattle.type_walks.specs.ToldTypesLaws.{TellsPrincipal}
+use Rattle.type_constructs.specs.Passing.{Passes}
+use Rattle.type_schemes.specs.Freezing.{ConstantsAround}
+use Rattle.type_constructs.specs.Failing.{Large, Bad, Fails}
+use Rattle.type_constructs.proofs.Passing.{passes_small}
+use Rattle.type_constructs.proofs.Failing.{fails_after, fails_earlier, fails_inside, fails_large}
 use Rattle.type_constructs.specs.Regions.{tops, deep}
 use Rattle.type_constructs.specs.Stepping.{Step}
 use Rattle.type_constructs.proofs.Spots.{Here, Tops, Deep, In}
 use Rattle.type_constructs.proofs.Running.{plain}
 use Rattle.type_constructs.proofs.Stops.{past, ends, stopped, stops_next}
-use Rattle.type_definitions.specs.Groups.{WalkedMembers}
-use Rattle.type_definitions.proofs.Grouping.{walks_small, walks_no_member, walks_one_member, walks_group}
-use Rattle.infer_base.specs.Codes.{Code, State}
-use Rattle.infer_base.specs.Ready.{IsReady, Follows}
-use Rattle.infer_base.specs.Means.{Setting}
-use Rattle.infer_base.specs.Promises.{Walked, Stopped}
-use Rattle.infer_base.proofs.Staying.{follows_on, ready_later, setting_later, setting_links, setting_child}
+use Rattle.type_constructs.specs.Groups.{WalkedMembers}
+use Rattle.type_constructs.proofs.Grouping.{walks_small, walks_no_member, walks_one_member, walks_group}
+use Rattle.infer_steps.specs.Codes.{Code, State}
+use Rattle.infer_steps.specs.Ready.{IsReady, Follows}
+use Rattle.infer_steps.specs.Means.{Setting}
+use Rattle.infer_steps.specs.Promises.{Walked, Stopped}
+use Rattle.infer_steps.proofs.Staying.{follows_on, ready_later, setting_later, setting_links, setting_child}
 use Rattle.infer_steps.specs.Made.{AreOpened}
 use Rattle.infer_groups.specs.Defined.{DefinitionsStop, IsSmallIn, IsLargeIn, group_places, at_child, inside}
 use Rattle.infer_groups.specs.Members.{Named, with_named, variables_of, AreTitled, scope_inside, at_number}

@@ -9,11 +9,11 @@ use Rattle.type_items.specs.Definitions.{Definition}
 use Rattle.type_store.specs.Store.{Store}
 use Rattle.type_walks.specs.Links.{Links, Live, Has, Tells}
 use Rattle.type_walks.specs.Walks.{Around}
-use Rattle.type_copies.specs.Laws.{SaysWithMore}
-use Rattle.infer_base.specs.Codes.{Code, One, with_meaning}
-use Rattle.infer_base.specs.Ready.{IsReady}
-use Rattle.infer_base.specs.Means.{Means}
-use Rattle.infer_base.proofs.Entering.{ready_enters, enters_one}
+use Rattle.type_walks.specs.TypeCopiesLaws.{SaysWithMore}
+use Rattle.infer_steps.specs.Codes.{Code, One, with_meaning}
+use Rattle.infer_steps.specs.Ready.{IsReady}
+use Rattle.infer_steps.specs.Means.{Means}
+use Rattle.infer_steps.proofs.Entering.{ready_enters, enters_one}
 use Rattle.infer_groups.specs.Members.{Named, with_named, AreNamed, variables_of, AreTitled}
 
 pub readies_named : (code : Code) (d : ℕ) (s : Store) (names : List Named)

@@ -17,23 +17,23 @@ use Rattle.type_walks.specs.Regions.{none, only, below}
 use Rattle.type_walks.specs.Links.{Links, Live, Has}
 use Rattle.type_walks.specs.Laws.{Outside}
 use Rattle.type_walks.specs.Walks.{Around, Walk}
-use Rattle.type_copies.specs.Laws.{SaysLater, SaysWithMore, deeper}
-use Rattle.told_types.specs.Laws.{TellsPrincipal}
-use Rattle.type_freezing.specs.Freezing.{ConstantsAround}
-use Rattle.type_refusals.specs.Passing.{Passes}
-use Rattle.type_refusals.proofs.Passing.{passes_small}
+use Rattle.type_walks.specs.TypeCopiesLaws.{SaysLater, SaysWithMore, deeper}
+use Rattle.type_walks.specs.ToldTypesLaws.{TellsPrincipal}
+use Rattle.type_schemes.specs.Freezing.{ConstantsAround}
+use Rattle.type_constructs.specs.Passing.{Passes}
+use Rattle.type_constructs.proofs.Passing.{passes_small}
 use Rattle.type_constructs.specs.Binding.{BoundHave}
 use Rattle.type_constructs.specs.Patterns.{Matched}
 use Rattle.type_constructs.specs.Stepping.{Step}
 use Rattle.type_constructs.proofs.Spots.{Here, Child, Itself, Below, Nowhere, In}
 use Rattle.type_constructs.proofs.Running.{plain, last, on, under}
-use Rattle.type_definitions.proofs.Grouping.{walks_small, walks_destructure}
-use Rattle.infer_base.specs.Codes.{Code, State, Bound, with_bound}
-use Rattle.infer_base.specs.Ready.{IsReady, Follows}
-use Rattle.infer_base.specs.Means.{Means, Setting, Binds}
-use Rattle.infer_base.specs.Promises.{Walked}
-use Rattle.infer_base.proofs.Staying.{follows_on, ready_later, setting_later, setting_links, around_child}
-use Rattle.infer_base.proofs.Entering.{setting_binds}
+use Rattle.type_constructs.proofs.Grouping.{walks_small, walks_destructure}
+use Rattle.infer_steps.specs.Codes.{Code, State, Bound, with_bound}
+use Rattle.infer_steps.specs.Ready.{IsReady, Follows}
+use Rattle.infer_steps.specs.Means.{Means, Setting, Binds}
+use Rattle.infer_steps.specs.Promises.{Walked}
+use Rattle.infer_steps.proofs.Staying.{follows_on, ready_later, setting_later, setting_links, around_child}
+use Rattle.infer_steps.proofs.Entering.{setting_binds}
 use Rattle.infer_steps.specs.Made.{IsOpened}
 use Rattle.infer_groups.specs.Defined.{IsSmallIn, at_child, inside, moved}
 use Rattle.infer_groups.specs.Members.{Named, AreNamed, scope_inside, GroupDone}

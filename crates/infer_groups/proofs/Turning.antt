@@ -8,17 +8,17 @@ use Rattle.type_items.specs.Scopes.{Scope}
 use Rattle.type_items.specs.Definitions.{Definition, in_written_order, type_groups, list_group, list_groups}
 use Rattle.type_items.specs.Definitions.{list_definitions}
 use Rattle.type_walks.specs.Walks.{Walk}
-use Rattle.type_refusals.specs.Passing.{Passes}
-use Rattle.type_refusals.specs.Failing.{Bad, Fails}
-use Rattle.infer_base.specs.Means.{Setting}
+use Rattle.type_constructs.specs.Passing.{Passes}
+use Rattle.type_constructs.specs.Failing.{Bad, Fails}
+use Rattle.infer_steps.specs.Means.{Setting}
 use Rattle.type_walks.specs.Regions.{none, only, below, span, either, Inside, Apart}
 use Rattle.type_walks.proofs.Regions.{child_in_span, below_in_span, span_in_below, span_in_span, spans_apart}
 use Rattle.type_walks.proofs.Regions.{none_inside, either_inside}
 use Rattle.type_walks.proofs.Walking.{goes_on, widens}
-use Rattle.type_refusals.proofs.Passing.{passes_on, passes_widely}
-use Rattle.type_refusals.proofs.Failing.{fails_after, fails_earlier}
-use Rattle.infer_base.specs.Codes.{Code, State}
-use Rattle.infer_base.proofs.Staying.{follows_on}
+use Rattle.type_constructs.proofs.Passing.{passes_on, passes_widely}
+use Rattle.type_constructs.proofs.Failing.{fails_after, fails_earlier}
+use Rattle.infer_steps.specs.Codes.{Code, State}
+use Rattle.infer_steps.proofs.Staying.{follows_on}
 use Rattle.infer_groups.specs.Defined.{Places, Listing, group_places, Defined, DefinitionsStop}
 use Rattle.infer_groups.proofs.Members.{take_none, take_all, take_one, take_count}
 use Rattle.infer_groups.specs.Lets.{listed_names, listed_first, DefinesNone, DefinesOneMore, DefinesAll, StopsAtNames}

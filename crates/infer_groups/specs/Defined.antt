@@ -11,12 +11,12 @@ use Rattle.type_store.specs.Solutions.{constants_of}
 use Rattle.type_walks.specs.Regions.{Region, only, below, either}
 use Rattle.type_walks.specs.Links.{Links}
 use Rattle.type_walks.specs.Walks.{Around, Walk}
-use Rattle.told_types.specs.Told.{Told}
-use Rattle.type_refusals.specs.Passing.{Passes}
-use Rattle.type_refusals.specs.Failing.{Bad, Fails}
-use Rattle.infer_base.specs.Codes.{Code, State}
-use Rattle.infer_base.specs.Ready.{IsReady, Follows}
-use Rattle.infer_base.specs.Means.{Setting}
+use Rattle.type_walks.specs.Told.{Told}
+use Rattle.type_constructs.specs.Passing.{Passes}
+use Rattle.type_constructs.specs.Failing.{Bad, Fails}
+use Rattle.infer_steps.specs.Codes.{Code, State}
+use Rattle.infer_steps.specs.Ready.{IsReady, Follows}
+use Rattle.infer_steps.specs.Means.{Setting}
 
 -- No constant of the store is of a place below. So a definition there can have new ones.
 pub record IsClear (s : State) : Type 0 where

@@ -3,9 +3,9 @@ use Rattle.std.specs.Prelude.{◌≡◌, ℕ, List, [], ◌∷◌}
 use Rattle.std.specs.List.{AllZip}
 use Rattle.elm_canon.specs.declared.reference.Ref.{Ref}
 use Rattle.type_store.specs.Store.{Store}
-use Rattle.type_copies.specs.Frozen.{Frozen}
-use Rattle.type_freezing.specs.Freezing.{IsFrozen}
-use Rattle.infer_base.specs.Codes.{Code, Many, with_meaning}
+use Rattle.type_walks.specs.Frozen.{Frozen}
+use Rattle.type_schemes.specs.Freezing.{IsFrozen}
+use Rattle.infer_steps.specs.Codes.{Code, Many, with_meaning}
 use Rattle.infer_groups.specs.Members.{Named}
 
 -- a name, and what is frozen of its type

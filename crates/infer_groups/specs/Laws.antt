@@ -10,10 +10,10 @@ use Rattle.type_walks.specs.Links.{Links, Live, AreLive, Has}
 use Rattle.type_walks.specs.Walks.{Around}
 use Rattle.type_constructs.specs.Patterns.{Matched}
 use Rattle.type_items.specs.Definitions.{Definition}
-use Rattle.type_refusals.specs.Failing.{Large, Bad}
-use Rattle.infer_base.specs.Codes.{Code, State, Bound, with_bound}
-use Rattle.infer_base.specs.Ready.{IsReady, Follows}
-use Rattle.infer_base.specs.Promises.{Walked, Stopped}
+use Rattle.type_constructs.specs.Failing.{Large, Bad}
+use Rattle.infer_steps.specs.Codes.{Code, State, Bound, with_bound}
+use Rattle.infer_steps.specs.Ready.{IsReady, Follows}
+use Rattle.infer_steps.specs.Promises.{Walked, Stopped}
 use Rattle.infer_steps.specs.Made.{IsOpened, AreOpened}
 use Rattle.infer_groups.specs.Defined.{Defined, DefinitionsStop, IsSmallIn, IsLargeIn, group_places, at_child, inside}
 use Rattle.infer_groups.specs.Defined.{moved}

@@ -8,9 +8,9 @@ use Rattle.type_items.specs.Definitions.{Definition, in_written_order, type_grou
 use Rattle.type_items.specs.Definitions.{around_items, list_group, list_groups, list_definitions}
 use Rattle.type_items.specs.Expressions.{items, definitions}
 use Rattle.type_walks.specs.Regions.{none, below, span}
-use Rattle.type_refusals.specs.Failing.{Bad}
-use Rattle.infer_base.specs.Codes.{Code, State}
-use Rattle.infer_base.specs.Promises.{Walked, Stopped}
+use Rattle.type_constructs.specs.Failing.{Bad}
+use Rattle.infer_steps.specs.Codes.{Code, State}
+use Rattle.infer_steps.specs.Promises.{Walked, Stopped}
 use Rattle.infer_groups.specs.Defined.{Listing, group_places, Defined, DefinitionsStop, at_child, moved}
 
 -- annotations: their names come into scope, after what they ask of the variables around

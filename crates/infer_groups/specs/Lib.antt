@@ -4,3 +4,5 @@ pub mod General
 pub mod Names
 pub mod Lets
 pub mod Laws
+pub mod Annotated
+pub mod Given

@@ -12,14 +12,14 @@ use Rattle.type_store.specs.Shape.{IsStore}
 use Rattle.type_walks.specs.Regions.{below}
 use Rattle.type_walks.specs.Links.{Links, Live}
 use Rattle.type_walks.specs.Walks.{Around, Walk}
-use Rattle.type_copies.specs.Laws.{deeper}
-use Rattle.type_freezing.specs.Freezing.{ConstantsAround}
-use Rattle.type_refusals.specs.Passing.{Passes}
+use Rattle.type_walks.specs.TypeCopiesLaws.{deeper}
+use Rattle.type_schemes.specs.Freezing.{ConstantsAround}
+use Rattle.type_constructs.specs.Passing.{Passes}
 use Rattle.type_constructs.specs.Binding.{Children, EntryHas}
-use Rattle.type_definitions.specs.Groups.{WalkedMembers}
-use Rattle.infer_base.specs.Codes.{Code, State, One, with_meaning}
-use Rattle.infer_base.specs.Ready.{IsReady, Follows}
-use Rattle.infer_base.specs.Means.{Setting}
+use Rattle.type_constructs.specs.Groups.{WalkedMembers}
+use Rattle.infer_steps.specs.Codes.{Code, State, One, with_meaning}
+use Rattle.infer_steps.specs.Ready.{IsReady, Follows}
+use Rattle.infer_steps.specs.Means.{Setting}
 use Rattle.infer_groups.specs.Defined.{Listing, inside}
 
 -- what a group without annotations lists, and the scope after it

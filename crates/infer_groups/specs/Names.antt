@@ -1,6 +1,6 @@
 -- The names of a type group, as the program has them.
 use Rattle.std.specs.Prelude.{List, map}
-use Rattle.type_freezing.specs.View.{frozen_view}
+use Rattle.type_schemes.specs.View.{frozen_view}
 use Rattle.infer_groups.specs.Members as members
 use Rattle.infer_groups.specs.General.{Generalised}
 use Rattle.infer_groups.specs.declared.names.Named.{Named}

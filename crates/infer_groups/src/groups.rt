@@ -4,11 +4,11 @@ ghost use Rattle.std.specs.Prelude.{◌≡◌, ℕ, List, IfOk, OnOk, length, ma
 ghost use Rattle.std.specs.List.{AllZip};
 ghost use Rattle.type_items.specs.Definitions as plain;
 ghost use Rattle.type_items.specs.Items.{child};
-ghost use Rattle.infer_base.specs.Codes.{Code};
-ghost use Rattle.infer_base.specs.Codes as codes;
-ghost use Rattle.infer_base.specs.Ready.{IsReady};
-ghost use Rattle.infer_base.specs.View.{code_of, here};
-ghost use Rattle.infer_base.specs.Leaving.{without};
+ghost use Rattle.infer_steps.specs.Codes.{Code};
+ghost use Rattle.infer_steps.specs.Codes as codes;
+ghost use Rattle.infer_steps.specs.Ready.{IsReady};
+ghost use Rattle.infer_steps.specs.View.{code_of, here};
+ghost use Rattle.infer_steps.specs.Leaving.{without};
 ghost use Rattle.infer_groups.specs.Defined.{Defined, group_places, inside};
 ghost use Rattle.infer_groups.specs.Members.{IsTitledAs, MembersDone, GroupDone, CanClose, listed_group, at_number};
 ghost use Rattle.infer_groups.specs.Members.{with_named};
@@ -18,9 +18,9 @@ use crate::laws::{closing_law, members_law};
 use crate::names::{Named, copy_name, enter_general, enter_named, freeze_named};
 use crate::states::{come_back, go_inside};
 use elm_canon::tree::Title;
-use infer_base::scope::{Entered, Scope};
-use infer_base::state::State;
 use infer_steps::make::open_each;
+use infer_steps::scope::{Entered, Scope};
+use infer_steps::state::State;
 use std::alloc::{AllocError, Global};
 
 /// A type group whose members are to be walked.

@@ -5,9 +5,9 @@ ghost use Rattle.infer_groups.specs.Laws.{GroupCloses, PatternIsDone};
 ghost use Rattle.infer_groups.specs.Lets.{DefinesNone, DefinesOneMore, DefinesAll, StopsAtNames, StopsAtGroup};
 ghost use Rattle.infer_groups.specs.Lets.{LetIsWalked, LetStops, BodyStops};
 
-use told_types::laws::principal_law;
-use type_copies::laws::saying_law;
 use type_store::laws::choice_law;
+use type_walks::told_types_laws::principal_law;
+use type_walks::type_copies_laws::saying_law;
 
 /// The members of a type group are walked in turn.
 pub fn members_law()

@@ -3,18 +3,18 @@
 ghost use Rattle.std.specs.Prelude.{◌≡◌, ◌<◌, length, map, IfOk, OnOk};
 ghost use Rattle.std.specs.List.{All};
 ghost use Rattle.type_store.specs.Shape.{IsStore};
-ghost use Rattle.type_freezing.specs.Freezing.{ConstantsAround};
-ghost use Rattle.infer_base.specs.View.{code_of};
-ghost use Rattle.infer_base.specs.Leaving.{without};
+ghost use Rattle.type_schemes.specs.Freezing.{ConstantsAround};
+ghost use Rattle.infer_steps.specs.View.{code_of};
+ghost use Rattle.infer_steps.specs.Leaving.{without};
 ghost use Rattle.infer_groups.specs.Members.{with_named};
 ghost use Rattle.infer_groups.specs.General.{with_general, AreFrozen};
 ghost use Rattle.infer_groups.specs.Names.{named_views, general_view};
 
 use elm_canon::reference::Ref;
-use infer_base::scope::{Entered, Meaning, Scope};
+use infer_steps::scope::{Entered, Meaning, Scope};
 use std::alloc::{AllocError, Global};
-use type_freezing::freezing::freeze;
-use type_freezing::frozen::Frozen;
+use type_schemes::freezing::freeze;
+use type_schemes::frozen::Frozen;
 use type_store::store::Store;
 
 /// A name, and the variable of its type.

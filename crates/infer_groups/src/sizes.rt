@@ -2,17 +2,17 @@
 
 ghost use Rattle.std.specs.Prelude.{◌≡◌, ◌<◌, Err, length, OnOk};
 ghost use Rattle.type_store.specs.Shape.{IsStore};
-ghost use Rattle.type_refusals.specs.Failing as failing;
-ghost use Rattle.infer_base.specs.View.{bad_view};
-ghost use Rattle.infer_base.specs.declared.bad.Bad.{Bad as PlainBad};
-ghost use Rattle.infer_base.specs.declared.bad.InferError.TheVariants as error;
+ghost use Rattle.type_constructs.specs.Failing as failing;
+ghost use Rattle.infer_steps.specs.View.{bad_view};
+ghost use Rattle.infer_steps.specs.declared.bad.Bad.{Bad as PlainBad};
+ghost use Rattle.infer_steps.specs.declared.bad.InferError.TheVariants as error;
 ghost use Rattle.infer_groups.specs.Defined.{IsSmallIn, IsLargeIn};
 
 use elm_base::position::Pos;
-use infer_base::bad::{Bad, InferError};
+use infer_steps::bad::{Bad, InferError};
 use std::alloc::Global;
-use told_reading::laws::reading_law;
-use type_reading::sizes::size;
+use type_constructs::told_reading_laws::reading_law;
+use type_schemes::sizes::size;
 use type_store::store::Store;
 
 /// So many nodes a type may have.

@@ -2,11 +2,11 @@
 
 ghost use Rattle.std.specs.Prelude.{◌≡◌, ◌+◌, ◌<◌, ℕ, OnOk};
 ghost use Rattle.type_items.specs.Items.{child};
-ghost use Rattle.infer_base.specs.Codes as plain;
-ghost use Rattle.infer_base.specs.View.{here};
+ghost use Rattle.infer_steps.specs.Codes as plain;
+ghost use Rattle.infer_steps.specs.View.{here};
 ghost use Rattle.infer_groups.specs.Defined.{inside};
 
-use infer_base::state::State;
+use infer_steps::state::State;
 use std::alloc::AllocError;
 
 /// Goes to the child `number` of the place, and inside one definition more. The error is that memory or numbers ran

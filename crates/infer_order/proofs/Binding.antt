@@ -4,7 +4,7 @@ use Rattle.std.proofs.Common.{arith, ◌<◌}
 use Rattle.elm_canon.specs.declared.reference.Ref.{Ref}
 use Rattle.elm_canon.specs.Tree.{Pattern, patterns_of}
 use Rattle.elm_canon.specs.View.{items_before, nil_pattern, pattern_view}
-use Rattle.elm_proper.specs.Proper.{bound_by, all_bound_by}
+use Rattle.elm_canon.specs.Proper.{bound_by, all_bound_by}
 use Rattle.type_items.specs.Expressions.{nowhere}
 use Rattle.type_items.specs.Patterns.{pattern_start}
 use Rattle.elm_canon.specs.declared.tree.Pattern as tree

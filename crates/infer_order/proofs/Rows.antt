@@ -11,12 +11,12 @@ use Rattle.std.proofs.lemmas.List.Elements.{All-nil, All-cons, Contains-get_or}
 use Rattle.std.proofs.lemmas.List.Folds.{list_any-append}
 use Rattle.std.proofs.Math.Bool.{or-false}
 use Rattle.decl_groups.specs.Groups.{plain, list_at, IsOrder}
-use Rattle.binding_groups.specs.InOrder.{is_in, ordered_groups, AreWithin, IsTheOrder}
-use Rattle.binding_groups.proofs.Reaching.{is_use, use_is, or_cases, both}
+use Rattle.decl_groups.specs.InOrder.{is_in, ordered_groups, AreWithin, IsTheOrder}
+use Rattle.decl_groups.proofs.Reaching.{is_use, use_is, or_cases, both}
 use Rattle.elm_canon.specs.Names.{same_ref}
 use Rattle.elm_canon.specs.declared.reference.Ref.{Ref}
 use Rattle.elm_canon.specs.declared.reference.Ref.TheVariants.{Local, Top}
-use Rattle.elm_proper.specs.Proper.{among}
+use Rattle.elm_canon.specs.Proper.{among}
 use Rattle.type_items.specs.Definitions.{Definition, is_inferred_for, used_places, all_uses}
 use Rattle.infer_order.specs.Owners.{Numbers, put, put_all, put_from, nothing}
 use Rattle.infer_order.proofs.Owning.{same_back, pair_back, put_same}

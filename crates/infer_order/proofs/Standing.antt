@@ -17,7 +17,7 @@ use Rattle.elm_canon.specs.declared.tree.Function.{Function}
 use Rattle.elm_canon.specs.declared.tree.Title.{Title}
 use Rattle.elm_canon.specs.declared.tree.Expr.{Expr}
 use Rattle.elm_canon.specs.declared.tree.Pattern.{Pattern}
-use Rattle.elm_proper.specs.Proper.{bound_by}
+use Rattle.elm_canon.specs.Proper.{bound_by}
 use Rattle.type_items.specs.Definitions.{Definition}
 use Rattle.type_items.specs.Expressions.{titled, function_items, items, group_definitions, function_definitions}
 use Rattle.type_items.specs.Uses.{used}

@@ -6,7 +6,7 @@ use Rattle.std.specs.List.{All, AllByRecursion, AllZip}
 use Rattle.std.specs.Borrow.{Bor}
 use Rattle.elm_base.specs.declared.position.Pos.{Pos}
 use Rattle.decl_groups.specs.Groups.{plain}
-use Rattle.binding_groups.specs.InOrder.{ordered_groups}
+use Rattle.decl_groups.specs.InOrder.{ordered_groups}
 use Rattle.elm_canon.specs.declared.reference.Ref.{Ref}
 use Rattle.elm_canon.specs.Tree as tree
 use Rattle.elm_canon.specs.Tree.{Group, Groups, NoGroup, MoreGroup, groups_of}

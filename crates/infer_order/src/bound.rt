@@ -2,14 +2,14 @@
 
 ghost use Rattle.std.specs.Prelude.{◌≡◌, [], ◌∷◌, ◌++◌, OnOk};
 ghost use Rattle.elm_canon.specs.View.{pattern_view, patterns_view};
-ghost use Rattle.elm_proper.specs.Proper as proper;
+ghost use Rattle.elm_canon.specs.Proper as proper;
 ghost use Rattle.type_items.specs.Expressions.{nowhere};
 ghost use Rattle.type_items.specs.Patterns.{pattern_start};
 
+use elm_base::names::Name;
 use elm_base::position::Pos;
 use elm_canon::reference::Ref;
 use elm_canon::tree::Pattern;
-use elm_names::name::Name;
 use std::alloc::AllocError;
 
 /// Adds a local name.

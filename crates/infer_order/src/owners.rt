@@ -5,8 +5,8 @@ ghost use Rattle.elm_canon.specs.declared.reference.Ref.{Ref as PlainRef};
 ghost use Rattle.elm_canon.specs.declared.reference.Ref.TheVariants as ref;
 ghost use Rattle.infer_order.specs.Owners.{items_of, numbers_of, nothing, put, put_all};
 
+use elm_base::names::Name;
 use elm_canon::reference::Ref;
-use elm_names::name::Name;
 use indexmap::IndexMap;
 use std::alloc::{AllocError, Global};
 

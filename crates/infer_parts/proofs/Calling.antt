@@ -8,7 +8,7 @@ use Rattle.elm_type.specs.Types.{functions}
 use Rattle.type_items.specs.Items.{Place, child, Wanted, children}
 use Rattle.type_items.specs.Scopes.{Scope}
 use Rattle.type_items.specs.Expressions.{items, each_items}
-use Rattle.type_refusals.specs.Failing.{Bad}
+use Rattle.type_constructs.specs.Failing.{Bad}
 use Rattle.type_walks.specs.Regions.{below, either, Inside, Apart}
 use Rattle.type_walks.specs.Links.{Has}
 use Rattle.type_walks.proofs.Regions.{either_inside}
@@ -17,10 +17,10 @@ use Rattle.type_constructs.specs.Regions.{tops, deep}
 use Rattle.type_constructs.proofs.Spots.{Here, Child, Below, Tops, Deep, In, atoms_apart, atom_inside}
 use Rattle.type_constructs.proofs.Parts.{deep_in_deep, below_in_deep, deep_apart_below}
 use Rattle.type_constructs.proofs.Walking.{count_each, length_children}
-use Rattle.infer_base.specs.Codes.{Code, State}
-use Rattle.infer_base.specs.Ready.{IsReady}
-use Rattle.infer_ops.specs.Begun.{Begun}
-use Rattle.infer_ops.specs.Operations.{arguments, nothing, apply_types}
+use Rattle.infer_steps.specs.Codes.{Code, State}
+use Rattle.infer_steps.specs.Ready.{IsReady}
+use Rattle.infer_steps.specs.Begun.{Begun}
+use Rattle.infer_steps.specs.Operations.{arguments, nothing, apply_types}
 use Rattle.infer_parts.specs.Steps.{Lists, one, each, Went, Stuck}
 use Rattle.infer_parts.specs.Parts.{listed, part_of, part_place, operand_of, operand_place, type_at, call_region}
 use Rattle.infer_parts.specs.Parts.{call_items, CallOpens}

@@ -8,13 +8,13 @@ use Rattle.elm_canon.specs.View.{LinkView, Given, Composed, After, Before, Decid
 use Rattle.type_items.specs.Items.{Wanted}
 use Rattle.type_items.specs.Scopes.{Scope}
 use Rattle.type_items.specs.Expressions.{items}
-use Rattle.type_refusals.specs.Failing.{Bad}
+use Rattle.type_constructs.specs.Failing.{Bad}
 use Rattle.type_walks.specs.Regions.{below}
 use Rattle.type_walks.specs.Links.{Links}
 use Rattle.type_walks.specs.Walks.{Around}
-use Rattle.infer_base.specs.Codes.{Code, State}
-use Rattle.infer_base.specs.Means.{Setting}
-use Rattle.infer_base.specs.Ready.{IsReady, Follows}
+use Rattle.infer_steps.specs.Codes.{Code, State}
+use Rattle.infer_steps.specs.Means.{Setting}
+use Rattle.infer_steps.specs.Ready.{IsReady, Follows}
 use Rattle.infer_parts.specs.Formed.{FormedOp}
 use Rattle.infer_parts.specs.Steps.{one, Went, Stuck}
 use Rattle.infer_parts.specs.Parts.{IsStrict, listed, operand_of, operand_place, GoesOnAt}

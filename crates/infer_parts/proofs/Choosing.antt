@@ -9,7 +9,7 @@ use Rattle.type_items.specs.Items.{Place, child, Wanted, at}
 use Rattle.type_items.specs.Scopes.{Scope}
 use Rattle.type_items.specs.Patterns.{pattern_items, bind_pattern}
 use Rattle.type_items.specs.Expressions.{items, branch_items}
-use Rattle.type_refusals.specs.Failing.{Bad}
+use Rattle.type_constructs.specs.Failing.{Bad}
 use Rattle.type_walks.specs.Regions.{Region, none, only, below, either, Inside, Apart}
 use Rattle.type_walks.specs.Links.{Has}
 use Rattle.type_walks.proofs.Regions.{none_inside, none_apart, either_inside}
@@ -20,12 +20,12 @@ use Rattle.type_constructs.proofs.Spots.{Here, Child, Itself, Below, Tops, Deep,
 use Rattle.type_constructs.proofs.Parts.{deep_in_deep, below_in_deep, deep_apart_below}
 use Rattle.type_constructs.proofs.Walking.{branches_after}
 use Rattle.type_constructs.proofs.Chains.{tells_same, tells_more, has_new, has_still}
-use Rattle.infer_base.specs.Codes.{Code, State}
-use Rattle.infer_base.specs.Ready.{IsReady}
+use Rattle.infer_steps.specs.Codes.{Code, State}
+use Rattle.infer_steps.specs.Ready.{IsReady}
 use Rattle.infer_steps.specs.Made.{IsOpened, IsMade, Just}
 use Rattle.infer_steps.proofs.Stepping.{follows_itself}
-use Rattle.infer_ops.specs.Begun.{Begun, BeginStops}
-use Rattle.infer_ops.specs.Operations.{operands, logical_items, logical_types}
+use Rattle.infer_steps.specs.Begun.{Begun, BeginStops}
+use Rattle.infer_steps.specs.Operations.{operands, logical_items, logical_types}
 use Rattle.infer_parts.specs.Steps.{Lists, one, two, each, Went, Stuck, Gives, Opens}
 use Rattle.infer_parts.specs.Parts.{listed, part_of, part_place, operand_place, type_at, branch_at}
 use Rattle.infer_parts.specs.Parts.{branches_at, branches_region, BranchesWent, BranchesStuck}

@@ -9,12 +9,12 @@ use Rattle.elm_canon.specs.View.{branch_view, pattern_view, expr_view}
 use Rattle.elm_canon.specs.declared.tree.Branch.{Branch}
 use Rattle.elm_canon.specs.declared.tree.Expr.{the_lemmas}
 use Rattle.type_items.specs.Items.{Place, child, Wanted}
-use Rattle.type_refusals.specs.Failing.{Bad}
+use Rattle.type_constructs.specs.Failing.{Bad}
 use Rattle.type_walks.specs.Regions.{Region, below}
 use Rattle.type_walks.specs.Links.{Live}
-use Rattle.infer_base.specs.Codes.{Code, State, Bound, with_bound}
-use Rattle.infer_base.specs.Ready.{Follows}
-use Rattle.infer_base.proofs.Entering.{readies_bound}
+use Rattle.infer_steps.specs.Codes.{Code, State, Bound, with_bound}
+use Rattle.infer_steps.specs.Ready.{Follows}
+use Rattle.infer_steps.proofs.Entering.{readies_bound}
 use Rattle.infer_patterns.specs.Once.{FieldsOnce}
 use Rattle.infer_parts.specs.Formed.{Formed, FormedBranches}
 use Rattle.infer_parts.specs.Steps.{CanWalk, Lists, Saying, two, Went, Stuck}

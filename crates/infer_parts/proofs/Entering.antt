@@ -5,32 +5,32 @@ use Rattle.std.proofs.lemmas.List.{append-nil}
 use Rattle.std.specs.List.{AllZip}
 use Rattle.elm_base.specs.declared.position.Pos.{Pos}
 use Rattle.elm_canon.specs.Tree.{Pattern, Expr, patterns_of}
-use Rattle.elm_proper.specs.Proper.{count_of}
+use Rattle.elm_canon.specs.Proper.{count_of}
 use Rattle.type_items.specs.Items.{Place, child, Wanted}
 use Rattle.type_items.specs.Scopes.{Scope, Known}
 use Rattle.type_items.specs.Patterns.{pattern_items, patterns_items, bind_pattern, bind_patterns}
 use Rattle.type_items.specs.Expressions.{items}
-use Rattle.type_refusals.specs.Failing.{Bad, Fails}
+use Rattle.type_constructs.specs.Failing.{Bad, Fails}
 use Rattle.type_walks.specs.Regions.{Region, below, only, either, Inside, Apart}
 use Rattle.type_walks.specs.Links.{Links, Has}
 use Rattle.type_walks.proofs.Regions.{either_inside}
 use Rattle.type_walks.proofs.Linking.{left_inside, right_inside}
-use Rattle.type_copies.proofs.Saying.{says_later, says_with_more}
-use Rattle.type_refusals.proofs.Failing.{fails_after, fails_earlier}
+use Rattle.type_walks.proofs.Saying.{says_later, says_with_more}
+use Rattle.type_constructs.proofs.Failing.{fails_after, fails_earlier}
 use Rattle.type_constructs.specs.Regions.{tops, deep}
 use Rattle.type_constructs.proofs.Spots.{Here, Child, Itself, Below, Tops, Deep, In, atoms_apart, atom_inside}
 use Rattle.type_constructs.proofs.Sizes.{pattern_sizes, patterns_sizes}
 use Rattle.type_constructs.proofs.Chains.{has_still}
-use Rattle.infer_base.specs.Codes.{Code, State, Bound, with_bound}
-use Rattle.infer_base.specs.Ready.{IsReady}
-use Rattle.infer_base.proofs.Staying.{follows_on, setting_later}
-use Rattle.infer_base.proofs.Entering.{setting_binds}
+use Rattle.infer_steps.specs.Codes.{Code, State, Bound, with_bound}
+use Rattle.infer_steps.specs.Ready.{IsReady}
+use Rattle.infer_steps.proofs.Staying.{follows_on, setting_later}
+use Rattle.infer_steps.proofs.Entering.{setting_binds}
 use Rattle.infer_patterns.specs.Matches.{MatchesPattern, RefusesPattern, MatchesEach, RefusesEach}
 use Rattle.infer_patterns.specs.Scopes.{EntersPattern, EntersEach}
 use Rattle.infer_patterns.proofs.Entering as entering
-use Rattle.infer_ops.specs.Begun.{Begun, BeginStops}
-use Rattle.infer_ops.specs.Operations.{parameters, function_types}
-use Rattle.infer_ops.specs.Operations as ops
+use Rattle.infer_steps.specs.Begun.{Begun, BeginStops}
+use Rattle.infer_steps.specs.Operations.{parameters, function_types}
+use Rattle.infer_steps.specs.Operations as ops
 use Rattle.infer_parts.specs.Steps.{Lists, Saying, one, two, each, Went, Stuck}
 use Rattle.infer_parts.specs.Parts.{part_of, part_place, type_at, branch_of, function_of}
 use Rattle.infer_parts.proofs.Going.{step_on, step_forgets, plain_step, went_as, stuck_as, closes, sticks, same_inside}

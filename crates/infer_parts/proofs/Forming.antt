@@ -11,8 +11,8 @@ use Rattle.elm_canon.specs.Tree.{Group, Together, Constant, Destructure, Functio
 use Rattle.elm_canon.specs.Tree.{exprs_of, branches_of, groups_of, functions_of}
 use Rattle.elm_canon.specs.View.{LinkView, Given, Composed, After, Before, Decided, done, linked, accessed}
 use Rattle.elm_type.specs.Types.{Name}
-use Rattle.elm_proper.specs.Proper.{count_exprs, Scope, ProperOp, Proper, AllProper, ProperBranches, ProperGroups}
-use Rattle.elm_proper.specs.Proper.{ProperGroup, ProperFunctions}
+use Rattle.elm_canon.specs.Proper.{count_exprs, Scope, ProperOp, Proper, AllProper, ProperBranches, ProperGroups}
+use Rattle.elm_canon.specs.Proper.{ProperGroup, ProperFunctions}
 use Rattle.type_constructs.proofs.Walking.{count_each}
 use Rattle.infer_patterns.specs.Once.{FieldsOnce, EachFieldsOnce}
 use Rattle.infer_patterns.proofs.Once.{fields_distinct, proper_once, all_proper_once}

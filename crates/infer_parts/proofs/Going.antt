@@ -14,18 +14,18 @@ use Rattle.type_walks.specs.Walks.{Around, Walk}
 use Rattle.type_walks.proofs.Regions.{either_inside}
 use Rattle.type_walks.proofs.Walking.{goes_on, widens, forgets}
 use Rattle.type_walks.proofs.Linking.{all_live_later}
-use Rattle.type_copies.proofs.Saying.{says_later}
-use Rattle.type_refusals.specs.Passing.{Passes, NoSizes}
-use Rattle.type_refusals.specs.Failing.{Bad, Fails}
-use Rattle.type_refusals.proofs.Passing.{passes_plain, passes_on, passes_widely}
-use Rattle.type_refusals.proofs.Failing.{fails_after, fails_earlier}
+use Rattle.type_walks.proofs.Saying.{says_later}
+use Rattle.type_constructs.specs.Passing.{Passes, NoSizes}
+use Rattle.type_constructs.specs.Failing.{Bad, Fails}
+use Rattle.type_constructs.proofs.Passing.{passes_plain, passes_on, passes_widely}
+use Rattle.type_constructs.proofs.Failing.{fails_after, fails_earlier}
 use Rattle.type_constructs.specs.Stepping.{Step}
 use Rattle.type_constructs.proofs.Chains.{tells_same, tells_on}
-use Rattle.infer_base.specs.Codes.{Code, State}
-use Rattle.infer_base.specs.Means.{Setting}
-use Rattle.infer_base.specs.Ready.{IsReady, Follows}
-use Rattle.infer_base.specs.Promises.{Listing, Walked, Stopped}
-use Rattle.infer_base.proofs.Staying.{follows_on, ready_later, setting_later, setting_links}
+use Rattle.infer_steps.specs.Codes.{Code, State}
+use Rattle.infer_steps.specs.Means.{Setting}
+use Rattle.infer_steps.specs.Ready.{IsReady, Follows}
+use Rattle.infer_steps.specs.Promises.{Listing, Walked, Stopped}
+use Rattle.infer_steps.proofs.Staying.{follows_on, ready_later, setting_later, setting_links}
 use Rattle.infer_parts.specs.Steps.{Lists, Saying, one, Went, Stuck, Opens}
 
 -- ---- steps

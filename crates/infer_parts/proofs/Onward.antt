@@ -8,15 +8,15 @@ use Rattle.elm_canon.specs.Tree.{Op, TupleOf, ListOf, Build, RecordOf, Access, U
 use Rattle.elm_type.specs.Types.{Name, int_type}
 use Rattle.type_items.specs.Items.{Wanted}
 use Rattle.type_store.specs.Shape.{IsStore}
-use Rattle.type_refusals.specs.Failing.{Bad}
+use Rattle.type_constructs.specs.Failing.{Bad}
 use Rattle.type_walks.specs.Regions.{none, span}
 use Rattle.type_walks.specs.Links.{Has}
 use Rattle.type_walks.proofs.Walking.{rests}
 use Rattle.type_constructs.proofs.Chains.{tells_same, has_still}
-use Rattle.infer_base.specs.Codes.{Code, State}
+use Rattle.infer_steps.specs.Codes.{Code, State}
 use Rattle.infer_steps.proofs.Stepping.{follows_itself}
-use Rattle.infer_ops.specs.Begun.{Begun, BeginStops}
-use Rattle.infer_ops.specs.Operations.{next_two, update_items, update_types}
+use Rattle.infer_steps.specs.Begun.{Begun, BeginStops}
+use Rattle.infer_steps.specs.Operations.{next_two, update_items, update_types}
 use Rattle.infer_parts.specs.Steps.{Saying, each, Opens}
 use Rattle.infer_parts.specs.Parts.{GoesOn, GoesOnAt, GoesOnStuck, StopsOnAt, type_at}
 use Rattle.infer_parts.proofs.Going.{plain_step, zip_at}

@@ -14,7 +14,7 @@ use Rattle.type_items.specs.Items.{Place, child, Wanted, at, Item}
 use Rattle.type_items.specs.Scopes.{Scope}
 use Rattle.type_items.specs.Operations.{plan}
 use Rattle.type_items.specs.Expressions.{items, each_items, part_items}
-use Rattle.type_refusals.specs.Failing.{Bad}
+use Rattle.type_constructs.specs.Failing.{Bad}
 use Rattle.type_walks.specs.Regions.{Region, none, below, span, either, Inside, Apart}
 use Rattle.type_walks.specs.Links.{Has}
 use Rattle.type_walks.proofs.Regions.{none_apart, apart_none, none_inside, either_inside}
@@ -23,11 +23,11 @@ use Rattle.type_constructs.specs.Regions.{tops, deep}
 use Rattle.type_constructs.proofs.Spots.{Here, Child, Below, Tops, Deep, Span, In, atoms_apart, atom_inside}
 use Rattle.type_constructs.proofs.Parts.{deep_in_deep, below_in_deep, deep_apart_below}
 use Rattle.type_constructs.proofs.Walking.{each_after, count_each, length_children, length_replicate}
-use Rattle.infer_base.specs.Codes.{Code, State}
-use Rattle.infer_base.specs.Ready.{IsReady}
-use Rattle.infer_ops.specs.Begun.{Types, Begun, BeginStops}
-use Rattle.infer_ops.specs.Operations.{width, beside, before_region, before_items, all_types, part_types, BeginsOp}
-use Rattle.infer_ops.specs.Operations.{OpStops}
+use Rattle.infer_steps.specs.Codes.{Code, State}
+use Rattle.infer_steps.specs.Ready.{IsReady}
+use Rattle.infer_steps.specs.Begun.{Types, Begun, BeginStops}
+use Rattle.infer_steps.specs.Operations.{width, beside, before_region, before_items, all_types, part_types, BeginsOp}
+use Rattle.infer_steps.specs.Operations.{OpStops}
 use Rattle.infer_parts.specs.Formed.{FormedOp}
 use Rattle.infer_parts.specs.Steps.{Lists, one, each, Went, Stuck, Opens}
 use Rattle.infer_parts.specs.Parts.{IsStrict, listed, operand_of, operand_place, type_at, between_items, between_region}

@@ -4,15 +4,15 @@ use Rattle.elm_base.specs.declared.position.Pos.{Pos}
 use Rattle.elm_canon.specs.Tree.{Expr}
 use Rattle.type_items.specs.Items.{Place, child, Wanted}
 use Rattle.type_items.specs.Scopes.{Scope}
-use Rattle.type_refusals.specs.Failing.{Bad}
+use Rattle.type_constructs.specs.Failing.{Bad}
 use Rattle.type_walks.specs.Regions.{Region, below}
 use Rattle.type_walks.specs.Links.{Links, Live}
 use Rattle.type_walks.specs.Walks.{Around}
 use Rattle.type_constructs.proofs.Spots.{Here, Child, Below, In, atom_inside}
-use Rattle.infer_base.specs.Codes.{Code, State}
-use Rattle.infer_base.specs.Means.{Setting}
-use Rattle.infer_base.specs.Ready.{Follows}
-use Rattle.infer_base.proofs.Staying.{setting_child}
+use Rattle.infer_steps.specs.Codes.{Code, State}
+use Rattle.infer_steps.specs.Means.{Setting}
+use Rattle.infer_steps.specs.Ready.{Follows}
+use Rattle.infer_steps.proofs.Staying.{setting_child}
 use Rattle.infer_parts.specs.Steps.{CanWalk, Lists, Saying, one, Went, Stuck}
 use Rattle.infer_parts.specs.Parts.{listed, part_of, part_place, operand_of, operand_place}
 use Rattle.infer_parts.proofs.Going.{ready_on}

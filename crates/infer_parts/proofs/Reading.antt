@@ -9,7 +9,7 @@ use Rattle.elm_type.specs.Types.{Name, int_type}
 use Rattle.type_items.specs.Items.{Place, child, Wanted, at, Same}
 use Rattle.type_items.specs.Scopes.{Scope}
 use Rattle.type_items.specs.Expressions.{items}
-use Rattle.type_refusals.specs.Failing.{Bad}
+use Rattle.type_constructs.specs.Failing.{Bad}
 use Rattle.type_walks.specs.Regions.{Region, none, below, either, Inside, Apart}
 use Rattle.type_walks.specs.Links.{Has, Live, Later}
 use Rattle.type_walks.specs.Walks.{Earlier}
@@ -17,12 +17,12 @@ use Rattle.type_walks.proofs.Regions.{none_inside, apart_none, either_inside}
 use Rattle.type_walks.proofs.Linking.{left_inside, right_inside}
 use Rattle.type_constructs.proofs.Spots.{Here, Child, Below, Span, In, atoms_apart, atom_inside}
 use Rattle.type_constructs.proofs.Chains.{has_still}
-use Rattle.infer_base.specs.Codes.{Code, State}
-use Rattle.infer_base.specs.Ready.{Follows}
+use Rattle.infer_steps.specs.Codes.{Code, State}
+use Rattle.infer_steps.specs.Ready.{Follows}
 use Rattle.infer_steps.specs.Asked.{AsksSame, RefusesSame}
 use Rattle.infer_steps.proofs.Stepping.{still_live}
-use Rattle.infer_ops.specs.Begun.{Begun, BeginStops}
-use Rattle.infer_ops.specs.Operations.{next_two, access_items, access_types}
+use Rattle.infer_steps.specs.Begun.{Begun, BeginStops}
+use Rattle.infer_steps.specs.Operations.{next_two, access_items, access_types}
 use Rattle.infer_parts.specs.declared.reads.Field as reads
 use Rattle.infer_parts.specs.Steps.{CanWalk, Lists, Saying, one, each_and, Went, Stuck, Opens}
 use Rattle.infer_parts.specs.Parts.{listed, operand_of, operand_place, type_at}

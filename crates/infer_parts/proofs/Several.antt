@@ -4,9 +4,9 @@ use Rattle.std.proofs.lemmas.List.{append_assoc, length-append}
 use Rattle.elm_base.specs.declared.position.Pos.{Pos}
 use Rattle.elm_canon.specs.Tree.{Expr, Apply, exprs_of}
 use Rattle.type_items.specs.Items.{Wanted}
-use Rattle.type_refusals.specs.Failing.{Bad}
+use Rattle.type_constructs.specs.Failing.{Bad}
 use Rattle.type_walks.specs.Regions.{below}
-use Rattle.infer_base.specs.Codes.{Code, State}
+use Rattle.infer_steps.specs.Codes.{Code, State}
 use Rattle.infer_parts.specs.Steps.{one, Went, Stuck}
 use Rattle.infer_parts.specs.Parts.{listed, operand_of, operand_place, ArgumentsWent, ArgumentsStuck}
 use Rattle.infer_parts.proofs.Calling.{call_next, call_next_stuck}

@@ -6,14 +6,14 @@ use Rattle.std.proofs.lemmas.List.{get_or_default}
 use Rattle.elm_base.specs.declared.position.Pos.{Pos}
 use Rattle.elm_canon.specs.Tree.{Expr}
 use Rattle.type_items.specs.Items.{Wanted}
-use Rattle.type_refusals.specs.Failing.{Bad}
+use Rattle.type_constructs.specs.Failing.{Bad}
 use Rattle.type_walks.specs.Regions.{below}
 use Rattle.type_walks.specs.Links.{Live}
 use Rattle.type_store.specs.Store.{Store}
-use Rattle.infer_base.specs.Codes.{Code, State}
-use Rattle.infer_base.specs.Promises.{Listing, Walked}
-use Rattle.infer_base.specs.Ready.{Follows}
-use Rattle.infer_leaves.specs.Leaves.{WalksAlone, StopsAlone}
+use Rattle.infer_steps.specs.Codes.{Code, State}
+use Rattle.infer_steps.specs.Promises.{Listing, Walked}
+use Rattle.infer_steps.specs.Ready.{Follows}
+use Rattle.infer_steps.specs.Leaves.{WalksAlone, StopsAlone}
 use Rattle.infer_parts.specs.Steps.{one, Went, Stuck}
 use Rattle.infer_parts.specs.Parts.{listed}
 use Rattle.infer_parts.proofs.Going.{went_walked, stuck_stopped}

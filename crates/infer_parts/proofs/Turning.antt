@@ -5,10 +5,10 @@ use Rattle.elm_base.specs.declared.position.Pos.{Pos}
 use Rattle.elm_canon.specs.Tree.{Op, TupleOf, ListOf, Build, RecordOf, Access, Update, Negate, Binary, Expr, Strict}
 use Rattle.elm_canon.specs.Tree.{exprs_of}
 use Rattle.type_items.specs.Items.{Wanted}
-use Rattle.type_refusals.specs.Failing.{Bad}
+use Rattle.type_constructs.specs.Failing.{Bad}
 use Rattle.type_walks.specs.Regions.{below}
-use Rattle.infer_base.specs.Codes.{Code, State}
-use Rattle.infer_base.specs.Ready.{IsReady}
+use Rattle.infer_steps.specs.Codes.{Code, State}
+use Rattle.infer_steps.specs.Ready.{IsReady}
 use Rattle.infer_parts.specs.Formed.{FormedOp}
 use Rattle.infer_parts.specs.Steps.{one, Went, Stuck}
 use Rattle.infer_parts.specs.Parts.{IsStrict, listed, operand_of, operand_place, GoesOnAt, StopsOnAt, known_count}

@@ -6,12 +6,12 @@ use Rattle.elm_base.specs.declared.position.Pos.{Pos}
 use Rattle.elm_canon.specs.Tree.{Op, Expr, Strict, Apply, Logical, exprs_of}
 use Rattle.elm_canon.specs.View.{LinkView, Given, Composed, After, Before, Decided, done, linked}
 use Rattle.type_items.specs.Items.{child, Wanted}
-use Rattle.type_refusals.specs.Failing.{Bad}
+use Rattle.type_constructs.specs.Failing.{Bad}
 use Rattle.type_walks.specs.Regions.{below}
 use Rattle.type_walks.specs.Links.{Live}
-use Rattle.infer_base.specs.Codes.{Code, State}
-use Rattle.infer_base.specs.Ready.{Follows}
-use Rattle.infer_base.proofs.Staying.{follows_on}
+use Rattle.infer_steps.specs.Codes.{Code, State}
+use Rattle.infer_steps.specs.Ready.{Follows}
+use Rattle.infer_steps.proofs.Staying.{follows_on}
 use Rattle.infer_steps.proofs.Stepping.{all_still_live}
 use Rattle.infer_parts.specs.Steps.{CanWalk, one, Went, Stuck}
 use Rattle.infer_parts.specs.Parts.{IsStrict, listed, operand_of, operand_place, GoesOnAt, StopsOnAt, known_count}

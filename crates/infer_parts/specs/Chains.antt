@@ -9,10 +9,10 @@ use Rattle.elm_type.specs.Types.{Name}
 use Rattle.type_items.specs.Items.{Place, child, Wanted, at}
 use Rattle.type_walks.specs.Regions.{below, either}
 use Rattle.type_walks.specs.Links.{Live}
-use Rattle.type_refusals.specs.Failing.{Bad}
-use Rattle.infer_base.specs.Codes.{Code, State}
-use Rattle.infer_base.specs.Ready.{Follows}
-use Rattle.infer_ops.specs.Operations.{operands, logical_items, next_two, access_items, access_types}
+use Rattle.type_constructs.specs.Failing.{Bad}
+use Rattle.infer_steps.specs.Codes.{Code, State}
+use Rattle.infer_steps.specs.Ready.{Follows}
+use Rattle.infer_steps.specs.Operations.{operands, logical_items, next_two, access_items, access_types}
 use Rattle.infer_parts.specs.Steps.{CanWalk, one, each_and, Went, Stuck, Opens}
 use Rattle.infer_parts.specs.Formed.{FormedOp}
 use Rattle.infer_parts.specs.Parts.{IsStrict, listed, part_of, known_count, OpOpens, CallOpens}

@@ -7,11 +7,11 @@ use Rattle.elm_canon.specs.Tree.{Expr, Is, NameOf, Accessor, Lambda, Apply, Stri
 use Rattle.elm_canon.specs.Tree.{Exprs, NoExpr, MoreExpr, Branches, NoBranch, MoreBranch, Groups, NoGroup, MoreGroup}
 use Rattle.elm_canon.specs.Tree.{Group, Together, Constant, Destructure, Functions, NoFunction, MoreFunction}
 use Rattle.elm_canon.specs.Tree.{Annotation, Title}
-use Rattle.elm_proper.specs.Proper.{count_exprs}
+use Rattle.elm_canon.specs.Proper.{count_exprs}
 use Rattle.infer_patterns.specs.Once.{FieldsOnce, EachFieldsOnce}
-use Rattle.infer_ops.specs.Operations.{NamesOnce}
+use Rattle.infer_steps.specs.Operations.{NamesOnce}
 use Rattle.infer_order.specs.Order.{IsSimple}
-use Rattle.infer_annotations.specs.Once as annotations
+use Rattle.infer_types.specs.Once as annotations
 
 -- so many parts an operation has
 abbrev pub HasParts : Op → ℕ → Type 0

@@ -9,11 +9,11 @@ use Rattle.type_items.specs.Scopes.{Scope}
 use Rattle.type_items.specs.Operations.{plan}
 use Rattle.type_items.specs.Patterns.{pattern_items, bind_pattern}
 use Rattle.type_items.specs.Expressions.{items, each_items, branch_items, function_items}
-use Rattle.type_refusals.specs.Failing.{Bad}
+use Rattle.type_constructs.specs.Failing.{Bad}
 use Rattle.type_walks.specs.Regions.{Region, none, below, span, either}
 use Rattle.type_constructs.specs.Regions.{tops, deep}
-use Rattle.infer_base.specs.Codes.{Code, State}
-use Rattle.infer_ops.specs.Operations.{width, beside, before_region, all_types, part_types, first_count, apply_types}
+use Rattle.infer_steps.specs.Codes.{Code, State}
+use Rattle.infer_steps.specs.Operations.{width, beside, before_region, all_types, part_types, first_count, apply_types}
 use Rattle.infer_parts.specs.Steps.{CanWalk, Lists, one, two, each, Went, Stuck, Opens}
 
 -- the expression is listed where it stands

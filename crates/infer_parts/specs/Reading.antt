@@ -8,8 +8,8 @@ use Rattle.type_items.specs.Items.{Wanted}
 use Rattle.type_store.specs.Store.{Store}
 use Rattle.type_walks.specs.Regions.{below}
 use Rattle.type_walks.specs.Links.{Live}
-use Rattle.type_refusals.specs.Failing.{Bad}
-use Rattle.infer_base.specs.Codes.{Code, State}
+use Rattle.type_constructs.specs.Failing.{Bad}
+use Rattle.infer_steps.specs.Codes.{Code, State}
 use Rattle.infer_parts.specs.declared.reads.Field as reads
 use Rattle.infer_parts.specs.Steps.{CanWalk, one, Went, Stuck}
 use Rattle.infer_parts.specs.Parts.{listed}

@@ -10,11 +10,11 @@ use Rattle.type_store.specs.Solutions.{constants_of}
 use Rattle.type_walks.specs.Regions.{Region, below}
 use Rattle.type_walks.specs.Links.{Links, Has, Tells}
 use Rattle.type_walks.specs.Walks.{Around}
-use Rattle.type_refusals.specs.Failing.{Bad, Fails}
+use Rattle.type_constructs.specs.Failing.{Bad, Fails}
 use Rattle.type_constructs.specs.Stepping.{Step}
-use Rattle.infer_base.specs.Codes.{Code, State}
-use Rattle.infer_base.specs.Means.{Setting}
-use Rattle.infer_base.specs.Ready.{IsReady, Follows}
+use Rattle.infer_steps.specs.Codes.{Code, State}
+use Rattle.infer_steps.specs.Means.{Setting}
+use Rattle.infer_steps.specs.Ready.{IsReady, Follows}
 
 -- Inference can go on here: the code's scope can be used, and no constant in the store is of a place below.
 pub record CanWalk (code : Code) (s : State) : Type 0 where

@@ -6,20 +6,20 @@ ghost use Rattle.elm_canon.specs.View.{op_view};
 ghost use Rattle.type_items.specs.Items.{child};
 ghost use Rattle.type_store.specs.Shape.{IsStore};
 ghost use Rattle.type_walks.specs.Links.{Live};
-ghost use Rattle.infer_base.specs.Codes as plain;
-ghost use Rattle.infer_base.specs.Codes.{Code};
-ghost use Rattle.infer_base.specs.Ready.{Follows};
-ghost use Rattle.infer_base.specs.View.{here, bad_view};
-ghost use Rattle.infer_base.specs.declared.bad.Bad.{Bad};
-ghost use Rattle.infer_base.specs.declared.bad.InferError.TheVariants as error;
-ghost use Rattle.infer_ops.specs.Operations.{NamesOnce};
+ghost use Rattle.infer_steps.specs.Codes as plain;
+ghost use Rattle.infer_steps.specs.Codes.{Code};
+ghost use Rattle.infer_steps.specs.Ready.{Follows};
+ghost use Rattle.infer_steps.specs.View.{here, bad_view};
+ghost use Rattle.infer_steps.specs.declared.bad.Bad.{Bad};
+ghost use Rattle.infer_steps.specs.declared.bad.InferError.TheVariants as error;
+ghost use Rattle.infer_steps.specs.Operations.{NamesOnce};
 ghost use Rattle.infer_parts.specs.Parts.{later_count, GoesOnAt, StopsOnAt};
 
 use elm_base::position::Pos;
 use elm_canon::tree::Op;
-use infer_base::bad::InferError;
-use infer_base::state::State;
-use infer_ops::fields::go_on_update;
+use infer_steps::bad::InferError;
+use infer_steps::fields::go_on_update;
+use infer_steps::state::State;
 use std::alloc::{AllocError, Global};
 
 /// The number of a child. The error is that it is not below 2^32.

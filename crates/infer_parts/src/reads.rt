@@ -8,12 +8,12 @@ ghost use Rattle.type_items.specs.Items.{Wanted, child};
 ghost use Rattle.type_store.specs.Shape.{IsStore};
 ghost use Rattle.type_walks.specs.Links.{Live};
 ghost use Rattle.type_walks.specs.Regions.{below};
-ghost use Rattle.infer_base.specs.Codes.{Code};
-ghost use Rattle.infer_base.specs.Codes as plain;
-ghost use Rattle.infer_base.specs.Ready.{Follows};
-ghost use Rattle.infer_base.specs.View.{here, bad_view};
-ghost use Rattle.infer_base.specs.declared.bad.Bad.{Bad};
-ghost use Rattle.infer_base.specs.declared.bad.InferError.TheVariants as error;
+ghost use Rattle.infer_steps.specs.Codes.{Code};
+ghost use Rattle.infer_steps.specs.Codes as plain;
+ghost use Rattle.infer_steps.specs.Ready.{Follows};
+ghost use Rattle.infer_steps.specs.View.{here, bad_view};
+ghost use Rattle.infer_steps.specs.declared.bad.Bad.{Bad};
+ghost use Rattle.infer_steps.specs.declared.bad.InferError.TheVariants as error;
 ghost use Rattle.infer_parts.specs.Steps.{CanWalk, one, Stuck};
 ghost use Rattle.infer_parts.specs.Parts.{listed};
 ghost use Rattle.infer_parts.specs.Chains.{IsRead};
@@ -21,12 +21,12 @@ ghost use Rattle.infer_parts.specs.Reading.{field_view, FieldLive, read_of, Read
 ghost use Rattle.infer_parts.specs.Reading.{ReadsClose, ReadsStop};
 
 use crate::parts::enter_both;
+use elm_base::names::Name;
 use elm_base::position::Pos;
-use elm_names::name::Name;
-use infer_base::bad::InferError;
-use infer_base::state::State;
-use infer_ops::fields::{Access, begin_access};
 use infer_steps::ask::same;
+use infer_steps::bad::InferError;
+use infer_steps::fields::{Access, begin_access};
+use infer_steps::state::State;
 use std::alloc::{AllocError, Global};
 
 /// A field that is read: its variable, and the one that it is wanted at.

@@ -8,8 +8,8 @@ use Rattle.elm_type.specs.Types.{Name}
 use Rattle.type_items.specs.Scopes.{Known}
 use Rattle.type_store.specs.Shape.{IsStore}
 use Rattle.type_walks.specs.Links.{Live}
-use Rattle.type_refusals.specs.Failing.{Bad}
-use Rattle.infer_base.specs.Codes.{State, Bound}
+use Rattle.type_constructs.specs.Failing.{Bad}
+use Rattle.infer_steps.specs.Codes.{State, Bound}
 use Rattle.infer_patterns.specs.Matches.{MatchesPattern, RefusesPattern, MatchesEach, RefusesEach, AddsNames, Begins}
 use Rattle.infer_patterns.proofs.Leaves.{name_matched, as_matched, located_matched}
 use Rattle.infer_patterns.proofs.Beginning.{constructor_matched, constructor_refused}

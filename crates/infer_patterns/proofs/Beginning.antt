@@ -8,14 +8,14 @@ use Rattle.type_items.specs.Items.{child}
 use Rattle.type_items.specs.Scopes.{Known}
 use Rattle.type_items.specs.Patterns.{shape}
 use Rattle.type_walks.specs.Regions.{none}
-use Rattle.type_refusals.specs.Failing.{Bad}
+use Rattle.type_constructs.specs.Failing.{Bad}
 use Rattle.type_constructs.proofs.Matching.{matches_constructor}
 use Rattle.type_constructs.proofs.Missing.{fails_shape, fails_constructor, fails_parts}
 use Rattle.type_constructs.proofs.Chains.{has_still}
-use Rattle.infer_base.specs.Codes.{State, Bound}
+use Rattle.infer_steps.specs.Codes.{State, Bound}
 use Rattle.infer_steps.specs.Asked.{AsksSame, RefusesSame}
 use Rattle.infer_steps.proofs.Stepping.{follows_on, all_still_live}
-use Rattle.infer_shapes.specs.Shapes.{IsShaped, NoShape}
+use Rattle.infer_patterns.specs.Shapes.{IsShaped, NoShape}
 use Rattle.infer_patterns.specs.Matches.{MatchesPattern, RefusesPattern, MatchesEach, RefusesEach, Begins}
 use Rattle.infer_patterns.specs.Matches.{RefusesConstructor}
 

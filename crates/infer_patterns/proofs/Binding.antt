@@ -7,12 +7,12 @@ use Rattle.elm_canon.specs.declared.reference.Ref.TheVariants.{Local}
 use Rattle.type_items.specs.Scopes.{Entry, Mono, Instance, General, Entries}
 use Rattle.type_walks.specs.Links.{Links, Live}
 use Rattle.type_constructs.specs.Binding.{BoundHas, BoundHave}
-use Rattle.infer_base.specs.Codes.{Code, State, Bound, One, with_meaning, with_bound}
-use Rattle.infer_base.specs.Means.{BindsEntry, Binds}
-use Rattle.infer_base.specs.Ready.{Follows}
-use Rattle.infer_base.specs.Leaving.{without}
-use Rattle.infer_base.specs.declared.scope.Entered.{Entered}
-use Rattle.infer_base.proofs.Scoping.{without_more}
+use Rattle.infer_steps.specs.Codes.{Code, State, Bound, One, with_meaning, with_bound}
+use Rattle.infer_steps.specs.Means.{BindsEntry, Binds}
+use Rattle.infer_steps.specs.Ready.{Follows}
+use Rattle.infer_steps.specs.Leaving.{without}
+use Rattle.infer_steps.specs.declared.scope.Entered.{Entered}
+use Rattle.infer_steps.proofs.Scoping.{without_more}
 use Rattle.infer_steps.proofs.Stepping.{still_live}
 use Rattle.infer_patterns.specs.View.{bound_view, in_scope}
 use Rattle.infer_patterns.specs.declared.bound.Bound.{Bound as Stored}

@@ -11,12 +11,12 @@ use Rattle.type_walks.specs.Links.{Links, Live}
 use Rattle.type_walks.specs.Walks.{Around}
 use Rattle.type_constructs.specs.Binding.{Binding}
 use Rattle.type_constructs.proofs.Naming.{names_over, all_names_over}
-use Rattle.infer_base.specs.Codes.{Code, State, Bound, with_bound}
-use Rattle.infer_base.specs.Ready.{IsReady, Follows}
-use Rattle.infer_base.specs.Means.{Setting}
-use Rattle.infer_base.specs.Laws.{ReadyLater, SettingLater, SettingBinds}
-use Rattle.infer_base.proofs.Entering.{readies_bound}
-use Rattle.infer_base.proofs.Staying.{setting_links}
+use Rattle.infer_steps.specs.Codes.{Code, State, Bound, with_bound}
+use Rattle.infer_steps.specs.Ready.{IsReady, Follows}
+use Rattle.infer_steps.specs.Means.{Setting}
+use Rattle.infer_steps.specs.Laws.{ReadyLater, SettingLater, SettingBinds}
+use Rattle.infer_steps.proofs.Entering.{readies_bound}
+use Rattle.infer_steps.proofs.Staying.{setting_links}
 use Rattle.infer_patterns.specs.Matches.{MatchesPattern, MatchesEach}
 use Rattle.infer_patterns.specs.Scopes.{SameKnown, EntersPattern, ReadyPattern, EntersEach}
 use Rattle.infer_patterns.specs.Scopes.{ReadyEach}

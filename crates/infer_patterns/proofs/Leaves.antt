@@ -15,14 +15,14 @@ use Rattle.type_store.specs.Shape.{IsStore}
 use Rattle.type_walks.specs.Regions.{none, only}
 use Rattle.type_walks.specs.Links.{Links, Live, AreLive, Tells}
 use Rattle.type_walks.specs.Walks.{Around, Walk}
-use Rattle.type_refusals.specs.Failing.{Bad, Fails}
+use Rattle.type_constructs.specs.Failing.{Bad, Fails}
 use Rattle.type_constructs.specs.Binding.{Children, Typed}
 use Rattle.type_constructs.specs.Patterns.{bound_before}
 use Rattle.type_constructs.proofs.Matching.{matches_anything, matches_name, matches_literal, matches_fields, matches_as}
 use Rattle.type_constructs.proofs.Matching.{matches_located}
 use Rattle.type_constructs.proofs.Missing.{fails_literal, fails_fields_lack, fails_fields}
 use Rattle.type_constructs.proofs.Chains.{tells_same, tells_more, tells_on, has_new, has_still}
-use Rattle.infer_base.specs.Codes.{State, Bound}
+use Rattle.infer_steps.specs.Codes.{State, Bound}
 use Rattle.infer_steps.specs.Made.{IsOpened, AreOpened, IsMade, Just}
 use Rattle.infer_steps.specs.Asked.{AsksSame, RefusesSame, AsksLacks, RefusesLacks}
 use Rattle.infer_steps.specs.Records.{OfRecord}

@@ -14,3 +14,5 @@ pub mod Listing
 pub mod Entering
 -- names before those that were bound
 pub mod Adding
+-- variables of constructors
+pub mod Shaping

@@ -8,8 +8,8 @@ use Rattle.elm_canon.specs.View.{nil_pattern, cons_pattern, items_before}
 use Rattle.type_items.specs.Scopes.{Known}
 use Rattle.type_store.specs.Shape.{IsStore}
 use Rattle.type_walks.specs.Links.{Live}
-use Rattle.type_refusals.specs.Failing.{Bad}
-use Rattle.infer_base.specs.Codes.{State, Bound}
+use Rattle.type_constructs.specs.Failing.{Bad}
+use Rattle.infer_steps.specs.Codes.{State, Bound}
 use Rattle.infer_steps.proofs.Stepping.{follows_itself, follows_on, still_live}
 use Rattle.infer_patterns.specs.Matches.{MatchesPattern, RefusesPattern, MatchesEach, AddsNames, Begins}
 use Rattle.infer_patterns.specs.Matches.{RefusesConstructor, Leads}

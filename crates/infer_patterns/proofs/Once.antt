@@ -7,9 +7,9 @@ use Rattle.elm_canon.specs.Names.{Name, same_name}
 use Rattle.elm_canon.specs.Tree.{Pattern, Anything, Named, As, Exactly, Construct, FieldsOf, LocatedPattern, Patterns}
 use Rattle.elm_canon.specs.Tree.{NoPattern, MorePattern, patterns_of}
 use Rattle.elm_canon.specs.View.{items_before}
-use Rattle.elm_proper.specs.Proper.{ProperPattern, ProperPatterns}
-use Rattle.elm_proper.specs.Spelled.{is_word, are_fields}
-use Rattle.ground_types.specs.Ground.{contains}
+use Rattle.elm_canon.specs.Proper.{ProperPattern, ProperPatterns}
+use Rattle.elm_canon.specs.Spelled.{is_word, are_fields}
+use Rattle.elm_type.specs.Ground.{contains}
 use Rattle.infer_steps.specs.Records.{AreDistinct}
 use Rattle.infer_patterns.specs.Once.{FieldsOnce, EachFieldsOnce}
 

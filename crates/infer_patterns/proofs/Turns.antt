@@ -11,13 +11,13 @@ use Rattle.type_store.specs.Store.{Store}
 use Rattle.type_store.specs.Shape.{IsStore}
 use Rattle.type_walks.specs.Regions.{none}
 use Rattle.type_walks.specs.Links.{Has, Live}
-use Rattle.type_refusals.specs.Failing.{Bad}
+use Rattle.type_constructs.specs.Failing.{Bad}
 use Rattle.type_constructs.specs.Patterns.{MatchedEach}
 use Rattle.type_constructs.specs.Faults.{EachMatchFails}
 use Rattle.type_constructs.proofs.Matching.{matches_none, matches_one_more}
 use Rattle.type_constructs.proofs.Missing.{fails_next, fails_more, fails_fewer}
 use Rattle.type_constructs.proofs.Chains.{has_still}
-use Rattle.infer_base.specs.Codes.{State, Bound}
+use Rattle.infer_steps.specs.Codes.{State, Bound}
 use Rattle.infer_steps.specs.Asked.{IsNonsense}
 use Rattle.infer_steps.proofs.Stepping.{follows_itself, follows_on}
 use Rattle.infer_patterns.specs.Matches.{MatchesPattern, RefusesPattern, MatchesEach, RefusesEach, AddsNames}

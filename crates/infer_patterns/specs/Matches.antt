@@ -14,12 +14,12 @@ use Rattle.type_store.specs.Store.{Store}
 use Rattle.type_walks.specs.Regions.{none, below}
 use Rattle.type_walks.specs.Links.{Links, Live, AreLive, Has}
 use Rattle.type_walks.specs.Walks.{Around, Walk}
-use Rattle.type_refusals.specs.Failing.{Bad}
+use Rattle.type_constructs.specs.Failing.{Bad}
 use Rattle.type_constructs.specs.Binding.{Shaped}
 use Rattle.type_constructs.specs.Patterns.{Matched, MatchedEach}
 use Rattle.type_constructs.specs.Faults.{MatchFails, EachMatchFails}
-use Rattle.infer_base.specs.Codes.{State, Bound}
-use Rattle.infer_base.specs.Ready.{Follows}
+use Rattle.infer_steps.specs.Codes.{State, Bound}
+use Rattle.infer_steps.specs.Ready.{Follows}
 
 -- a pattern that begins at `pos` or where it says was matched, for values of the type of the variable v
 pub record MatchesPattern (known : Known) (pos : Pos) (v : ℕ) (p : Pattern) (bound : List Bound) (old new : State)

@@ -9,9 +9,9 @@ use Rattle.type_items.specs.Patterns.{bind_pattern, bind_patterns}
 use Rattle.type_walks.specs.Links.{Links, Has}
 use Rattle.type_walks.specs.Walks.{Around}
 use Rattle.type_constructs.specs.Patterns.{Matched, MatchedEach}
-use Rattle.infer_base.specs.Codes.{Code, State, Bound, with_bound}
-use Rattle.infer_base.specs.Ready.{IsReady}
-use Rattle.infer_base.specs.Means.{Setting}
+use Rattle.infer_steps.specs.Codes.{Code, State, Bound, with_bound}
+use Rattle.infer_steps.specs.Ready.{IsReady}
+use Rattle.infer_steps.specs.Means.{Setting}
 use Rattle.infer_patterns.specs.Matches.{MatchesPattern, MatchesEach}
 
 -- the code's scope and the scope that it stands for know the same types

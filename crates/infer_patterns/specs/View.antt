@@ -1,6 +1,6 @@
 -- Names that patterns bind, with their variables.
 use Rattle.std.specs.Prelude.{List, map, reverse}
-use Rattle.infer_base.specs.Codes as codes
+use Rattle.infer_steps.specs.Codes as codes
 use Rattle.infer_patterns.specs.declared.bound.Bound.{Bound}
 
 abbrev pub bound_view : Bound → codes.Bound

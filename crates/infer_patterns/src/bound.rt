@@ -1,14 +1,14 @@
 //! Names that patterns bind.
 
 ghost use Rattle.std.specs.Prelude.{◌≡◌, ◌∷◌, map, IfOk, OnOk};
-ghost use Rattle.infer_base.specs.Codes.{with_bound};
-ghost use Rattle.infer_base.specs.Leaving.{without};
-ghost use Rattle.infer_base.specs.View.{code_of};
+ghost use Rattle.infer_steps.specs.Codes.{with_bound};
+ghost use Rattle.infer_steps.specs.Leaving.{without};
+ghost use Rattle.infer_steps.specs.View.{code_of};
 ghost use Rattle.infer_patterns.specs.View.{bound_view, in_scope};
 
+use elm_base::names::Name;
 use elm_canon::reference::Ref;
-use elm_names::name::Name;
-use infer_base::scope::{Entered, Meaning, Scope};
+use infer_steps::scope::{Entered, Meaning, Scope};
 use std::alloc::{AllocError, Global};
 
 /// A name that a pattern binds, and its variable.

@@ -2,7 +2,7 @@
 
 ghost use Rattle.infer_patterns.specs.Scopes.{SameKnown, EntersPattern, ReadyPattern, EntersEach, ReadyEach};
 
-use infer_base::laws::{following_law, scope_law, setting_law};
+use infer_steps::laws::{following_law, scope_law, setting_law};
 
 /// After a pattern the code's scope with its names stands for the scope with its names, and can be used.
 pub fn pattern_law()

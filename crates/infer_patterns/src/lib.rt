@@ -5,3 +5,4 @@ pub mod bound;
 pub mod laws;
 mod parts;
 pub mod pattern;
+pub mod shape;

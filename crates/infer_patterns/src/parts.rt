@@ -11,27 +11,27 @@ ghost use Rattle.type_items.specs.Patterns.{literal_type};
 ghost use Rattle.type_items.specs.Scopes as scopes;
 ghost use Rattle.type_store.specs.Shape.{IsStore};
 ghost use Rattle.type_walks.specs.Links.{Live};
-ghost use Rattle.infer_base.specs.Ready.{AreWritten};
-ghost use Rattle.infer_base.specs.View.{here, bad_view, known_view};
-ghost use Rattle.infer_base.specs.declared.bad.Bad.{Bad};
-ghost use Rattle.infer_base.specs.declared.bad.InferError.TheVariants as error;
+ghost use Rattle.infer_steps.specs.Ready.{AreWritten};
+ghost use Rattle.infer_steps.specs.View.{here, bad_view, known_view};
+ghost use Rattle.infer_steps.specs.declared.bad.Bad.{Bad};
+ghost use Rattle.infer_steps.specs.declared.bad.InferError.TheVariants as error;
 ghost use Rattle.infer_steps.specs.Made.{IsMade, Just};
 ghost use Rattle.infer_steps.specs.Records.{AreDistinct};
 ghost use Rattle.infer_patterns.specs.Matches.{MatchesPattern, RefusesPattern, AddsNames, Begins, RefusesConstructor};
 ghost use Rattle.infer_patterns.specs.View.{in_scope};
 
 use crate::bound::{Bound, bind};
+use crate::shape::{Items, infer_shape, list_shape, tuple_shape};
+use elm_base::names::Name;
 use elm_base::position::Pos;
 use elm_canon::tree::Literal;
 use elm_canon::unions::{Alternative, Union};
-use elm_names::name::Name;
-use infer_base::bad::InferError;
-use infer_base::known::Known;
-use infer_base::state::State;
-use infer_shapes::shape::{Items, infer_shape, list_shape, tuple_shape};
 use infer_steps::ask::{lacks_each, same};
+use infer_steps::bad::InferError;
+use infer_steps::known::Known;
 use infer_steps::make;
 use infer_steps::record::record;
+use infer_steps::state::State;
 use std::alloc::{AllocError, Global};
 
 /// Makes a variable for the type of a literal.

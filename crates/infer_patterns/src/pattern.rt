@@ -6,10 +6,10 @@ ghost use Rattle.elm_canon.specs.Tree as tree;
 ghost use Rattle.elm_canon.specs.View.{pattern_view, patterns_view, items_before};
 ghost use Rattle.type_store.specs.Shape.{IsStore};
 ghost use Rattle.type_walks.specs.Links.{Live};
-ghost use Rattle.infer_base.specs.Ready.{AreWritten};
-ghost use Rattle.infer_base.specs.View.{here, bad_view, known_view};
-ghost use Rattle.infer_base.specs.declared.bad.Bad.{Bad};
-ghost use Rattle.infer_base.specs.declared.bad.InferError.TheVariants as error;
+ghost use Rattle.infer_steps.specs.Ready.{AreWritten};
+ghost use Rattle.infer_steps.specs.View.{here, bad_view, known_view};
+ghost use Rattle.infer_steps.specs.declared.bad.Bad.{Bad};
+ghost use Rattle.infer_steps.specs.declared.bad.InferError.TheVariants as error;
 ghost use Rattle.infer_patterns.specs.Matches.{MatchesPattern, RefusesPattern, MatchesEach, RefusesEach, AddsNames};
 ghost use Rattle.infer_patterns.specs.Matches.{Leads};
 ghost use Rattle.infer_patterns.specs.Once.{FieldsOnce, EachFieldsOnce};
@@ -21,10 +21,10 @@ use crate::parts::{
 };
 use elm_base::position::Pos;
 use elm_canon::tree::Pattern;
-use infer_base::bad::InferError;
-use infer_base::known::Known;
-use infer_base::state::State;
 use infer_steps::ask::nonsense;
+use infer_steps::bad::InferError;
+use infer_steps::known::Known;
+use infer_steps::state::State;
 use std::alloc::Global;
 
 /// Matches the pattern, and adds the names that it binds.

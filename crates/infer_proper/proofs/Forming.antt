@@ -4,13 +4,13 @@ use Rattle.elm_canon.specs.Tree.{Annotation, Op, TupleOf, ListOf, Build, RecordO
 use Rattle.elm_canon.specs.Tree.{Expr, Is, NameOf, Accessor, Lambda, Apply, Strict, If, Logical, Let, Case, Located}
 use Rattle.elm_canon.specs.Tree.{Exprs, NoExpr, MoreExpr, Branches, NoBranch, MoreBranch, Groups, NoGroup, MoreGroup}
 use Rattle.elm_canon.specs.Tree.{Group, Together, Constant, Destructure, Functions, NoFunction, MoreFunction}
-use Rattle.elm_proper.specs.Proper.{count_exprs, Scope, ProperOp, Proper, AllProper, ProperBranches, ProperGroups}
-use Rattle.elm_proper.specs.Proper.{ProperGroup, ProperFunctions}
-use Rattle.annotation_proper.specs.Annotations.{IfWritten, InExpr, InExprs, InBranches, InGroups, InGroup, InFunctions}
-use Rattle.infer_annotations.specs.Once.{FieldsOnce}
+use Rattle.elm_canon.specs.Proper.{count_exprs, Scope, ProperOp, Proper, AllProper, ProperBranches, ProperGroups}
+use Rattle.elm_canon.specs.Proper.{ProperGroup, ProperFunctions}
+use Rattle.infer_proper.specs.Annotations.{IfWritten, InExpr, InExprs, InBranches, InGroups, InGroup, InFunctions}
+use Rattle.infer_types.specs.Once.{FieldsOnce}
 use Rattle.infer_patterns.proofs.Once.{fields_distinct, proper_once, all_proper_once}
-use Rattle.simple_lets.specs.Simple.{SimpleLets, AllSimpleLets, SimpleBranches, SimpleGroups, SimpleGroup}
-use Rattle.simple_lets.specs.Simple.{SimpleFunctions}
+use Rattle.infer_proper.specs.Simple.{SimpleLets, AllSimpleLets, SimpleBranches, SimpleGroups, SimpleGroup}
+use Rattle.infer_proper.specs.Simple.{SimpleFunctions}
 use Rattle.infer_parts.specs.Formed.{FormedOp, WrittenOnce, Formed, AllFormed, FormedBranches, FormedGroups}
 use Rattle.infer_parts.specs.Formed.{FormedGroup}
 use Rattle.infer_parts.specs.Formed.{FormedFunctions}

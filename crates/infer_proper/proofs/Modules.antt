@@ -4,18 +4,18 @@ use Rattle.std.specs.List.{AllByRecursion}
 use Rattle.elm_tree.specs.Tree as tree
 use Rattle.elm_canon.specs.Tree as canon
 use Rattle.elm_canon.specs.Tree.{Declaration, Given, Define}
-use Rattle.elm_proper.specs.Proper.{Scope, with_all}
-use Rattle.elm_proper.specs.Declarations.{ProperDeclarations, declared_names}
+use Rattle.elm_canon.specs.Proper.{Scope, with_all}
+use Rattle.elm_canon.specs.Declarations.{ProperDeclarations, declared_names}
 use Rattle.canon_module.specs.Resolve.{Setting, IsModule, module_faults}
 use Rattle.module_proper.specs.Modules.{IsAround, AreRead}
 use Rattle.module_proper.proofs.Resolved.{resolved_proper}
-use Rattle.port_proper.specs.Records.{ImportsHaveRecords}
-use Rattle.canon_lets.specs.Declarations.{DeclarationApart}
-use Rattle.canon_lets.proofs.Modules.{module_apart}
-use Rattle.simple_lets.proofs.Simple.{group_simple}
-use Rattle.infer_annotations.specs.Once.{FieldsOnce}
-use Rattle.annotation_proper.specs.Annotations.{InDeclaration}
-use Rattle.annotation_proper.proofs.Modules.{module_once}
+use Rattle.module_proper.specs.Records.{ImportsHaveRecords}
+use Rattle.module_proper.specs.Declarations.{DeclarationApart}
+use Rattle.module_proper.proofs.CanonLetsModules.{module_apart}
+use Rattle.infer_proper.proofs.Simple.{group_simple}
+use Rattle.infer_types.specs.Once.{FieldsOnce}
+use Rattle.infer_proper.specs.Annotations.{InDeclaration}
+use Rattle.infer_proper.proofs.AnnotationProperModules.{module_once}
 use Rattle.infer_proper.specs.Formed.{FormedDeclaration}
 use Rattle.infer_proper.proofs.Forming.{group_formed}
 

@@ -4,10 +4,10 @@ ghost use Rattle.std.specs.Prelude.{◌≡◌, []};
 ghost use Rattle.std.specs.List.{AllByRecursion};
 ghost use Rattle.elm_tree.specs.Tree as tree;
 ghost use Rattle.elm_canon.specs.Tree as canon;
-ghost use Rattle.elm_proper.specs.Proper.{Scope};
+ghost use Rattle.elm_canon.specs.Proper.{Scope};
 ghost use Rattle.canon_module.specs.Resolve.{Setting, IsModule, module_faults};
 ghost use Rattle.module_proper.specs.Modules.{IsAround, AreRead};
-ghost use Rattle.port_proper.specs.Records.{ImportsHaveRecords};
+ghost use Rattle.module_proper.specs.Records.{ImportsHaveRecords};
 ghost use Rattle.infer_proper.specs.Formed.{FormedDeclaration};
 
 /// The groups of a resolved module are as inference asks, where no fault was found in it and the aliases that its

@@ -7,7 +7,7 @@ use Rattle.elm_base.specs.declared.position.Pos.{Pos}
 use Rattle.elm_type.specs.Types.{Name, Made, tuple, int_type}
 use Rattle.elm_type.specs.declared.head.Head.TheVariants as head
 use Rattle.elm_type.specs.Classes.{Ground}
-use Rattle.ground_types.specs.Ground.{lacks, lacks_all, value}
+use Rattle.elm_type.specs.Ground.{lacks, lacks_all, value}
 use Rattle.type_items.specs.Items.{Wanted, Item, Lacks, lack_items}
 use Rattle.type_store.specs.Store.{Store}
 use Rattle.type_store.specs.Shape.{IsStore}
@@ -18,15 +18,15 @@ use Rattle.type_walks.specs.Links.{Types, Links, Has, AreLive}
 use Rattle.type_walks.specs.Walks.{Around, Walk}
 use Rattle.type_walks.proofs.Regions.{none_inside, none_apart, either_inside}
 use Rattle.type_walks.proofs.Walking.{rests, goes_on, widens}
-use Rattle.type_refusals.specs.Passing.{Passes}
-use Rattle.type_refusals.specs.Failing.{Bad, Fails, Same}
-use Rattle.type_refusals.specs.Laws.{FailsSame}
-use Rattle.type_refusals.proofs.Passing.{passes_plain}
-use Rattle.type_refusals.proofs.Failing.{fails_after, fails_earlier}
+use Rattle.type_constructs.specs.Passing.{Passes}
+use Rattle.type_constructs.specs.Failing.{Bad, Fails, Same}
+use Rattle.type_constructs.specs.TypeRefusalsLaws.{FailsSame}
+use Rattle.type_constructs.proofs.Passing.{passes_plain}
+use Rattle.type_constructs.proofs.Failing.{fails_after, fails_earlier}
 use Rattle.type_constructs.specs.Binding.{Typed}
 use Rattle.type_constructs.proofs.Chains.{has_still, tells_on}
 use Rattle.type_constructs.proofs.Sizes.{lack_sizes}
-use Rattle.infer_base.specs.Codes.{State}
+use Rattle.infer_steps.specs.Codes.{State}
 use Rattle.infer_steps.specs.Made.{IsMade, Just, OfHead}
 use Rattle.infer_steps.specs.Asked.{AsksLack, RefusesLack, AsksLacks, RefusesLacks, IsNonsense}
 use Rattle.infer_steps.proofs.Stepping.{follows_itself, follows_on}

@@ -26,15 +26,15 @@ use Rattle.type_walks.proofs.Walking.{rests, goes_on, widens}
 use Rattle.type_constructs.specs.Regions.{tops}
 use Rattle.type_constructs.specs.Binding.{Typed}
 use Rattle.type_constructs.proofs.Parts.{tops_in_tops, only_in_tops, tops_apart_only, zip_both}
-use Rattle.type_steps.proofs.Steps.{Makes}
-use Rattle.type_steps.proofs.Reaching.{took}
-use Rattle.type_steps.proofs.Making.{makes_open, makes_cell, makes_on}
-use Rattle.type_steps.specs.Laws.{EndLacks}
-use Rattle.type_steps.proofs.RowTypes.{builds_row}
-use Rattle.type_steps.proofs.Stepping.{asks_same, asks_class, asks_lack, opens, builds}
+use Rattle.type_walks.proofs.Steps.{Makes}
+use Rattle.type_walks.proofs.Reaching.{took}
+use Rattle.type_walks.proofs.Making.{makes_open, makes_cell, makes_on}
+use Rattle.type_walks.specs.TypeStepsLaws.{EndLacks}
+use Rattle.type_walks.proofs.RowTypes.{builds_row}
+use Rattle.type_walks.proofs.Stepping.{asks_same, asks_class, asks_lack, opens, builds}
 use Rattle.type_constructs.proofs.Chains.{tells_more, tells_same, tells_on, has_new, has_still, all_still}
-use Rattle.infer_base.specs.Codes.{State}
-use Rattle.infer_base.specs.Ready.{Follows}
+use Rattle.infer_steps.specs.Codes.{State}
+use Rattle.infer_steps.specs.Ready.{Follows}
 use Rattle.infer_steps.specs.Made.{IsOpened, AreOpened, IsMade, Just, OfHead, OfList, OfFunctions, OfRow}
 use Rattle.infer_steps.specs.Asked.{AsksSame, AsksClass, AsksLack}
 

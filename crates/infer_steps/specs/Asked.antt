@@ -4,15 +4,15 @@ use Rattle.elm_base.specs.declared.position.Pos.{Pos}
 use Rattle.elm_type.specs.Types.{Name}
 use Rattle.elm_type.specs.declared.class.Class.{Class}
 use Rattle.type_items.specs.Items.{Wanted, Item, Same, InClass, Lacks, lack_items, nonsense}
-use Rattle.ground_types.specs.Ground.{lacks, lacks_all}
+use Rattle.elm_type.specs.Ground.{lacks, lacks_all}
 use Rattle.type_store.specs.Solutions.{Values, Fit}
 use Rattle.type_walks.specs.Regions.{Region, none}
 use Rattle.type_walks.specs.Links.{Links, AreLive, Has}
 use Rattle.type_walks.specs.Walks.{Around, Walk}
-use Rattle.type_refusals.specs.Failing.{Bad, Fails}
+use Rattle.type_constructs.specs.Failing.{Bad, Fails}
 use Rattle.type_constructs.specs.Expressions.{Asked}
-use Rattle.infer_base.specs.Codes.{State}
-use Rattle.infer_base.specs.Ready.{Follows}
+use Rattle.infer_steps.specs.Codes.{State}
+use Rattle.infer_steps.specs.Ready.{Follows}
 
 -- two variables have the same type
 pub record AsksSame (old new : State) (pos : Pos) (v w : ℕ) : Type 0 where

@@ -1,3 +1,16 @@
 pub mod Made
 pub mod Asked
 pub mod Records
+pub mod Codes
+pub mod Keys
+pub mod View
+pub mod Leaving
+pub mod Ready
+pub mod Means
+pub mod Promises
+pub mod Laws
+pub mod Leaves
+pub mod Operators
+pub mod Begun
+pub mod Operations
+pub mod Filled

@@ -9,10 +9,10 @@ use Rattle.type_store.specs.Store.{FieldSlot}
 use Rattle.type_walks.specs.Regions.{only}
 use Rattle.type_walks.specs.Links.{Links, Live, AreLive, Has}
 use Rattle.type_walks.specs.Walks.{Around, Walk}
-use Rattle.type_steps.specs.Laws.{typed_fields, rest_type, RestHas}
+use Rattle.type_walks.specs.TypeStepsLaws.{typed_fields, rest_type, RestHas}
 use Rattle.type_constructs.specs.Binding.{Children, Typed}
-use Rattle.infer_base.specs.Codes.{State}
-use Rattle.infer_base.specs.Ready.{Follows}
+use Rattle.infer_steps.specs.Codes.{State}
+use Rattle.infer_steps.specs.Ready.{Follows}
 
 -- a variable was made of which nothing is known: it serves for any place
 pub record IsOpened (old new : State) (v : ℕ) : Type 0 where

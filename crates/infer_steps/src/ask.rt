@@ -2,21 +2,21 @@
 
 ghost use Rattle.std.specs.Prelude.{◌≡◌, ◌<◌, Err, IfOk, OnOk, length};
 ghost use Rattle.type_store.specs.Shape.{IsStore};
-ghost use Rattle.infer_base.specs.View.{here, bad_view};
-ghost use Rattle.infer_base.specs.declared.bad.Bad.{Bad};
-ghost use Rattle.infer_base.specs.declared.bad.InferError.TheVariants as error;
+ghost use Rattle.infer_steps.specs.View.{here, bad_view};
+ghost use Rattle.infer_steps.specs.declared.bad.Bad.{Bad};
+ghost use Rattle.infer_steps.specs.declared.bad.InferError.TheVariants as error;
 ghost use Rattle.infer_steps.specs.Asked.{AsksSame, RefusesSame, AsksClass, RefusesClass, AsksLack, RefusesLack};
 ghost use Rattle.infer_steps.specs.Asked.{AsksLacks, RefusesLacks, IsNonsense};
 
+use crate::bad::{Bad, InferError};
 use crate::make;
+use crate::state::State;
+use elm_base::names::Name;
 use elm_base::position::Pos;
-use elm_names::name::Name;
 use elm_type::class::Class;
 use elm_type::head::Head;
-use infer_base::bad::{Bad, InferError};
-use infer_base::state::State;
 use std::alloc::{AllocError, Global};
-use type_refusals::laws::fail_law;
+use type_constructs::type_refusals_laws::fail_law;
 use type_store::error::AddError;
 
 /// Adds that the variables `variable` and `other` have the same type, which is asked at `position`. The errors: they

@@ -8,14 +8,14 @@ ghost use Rattle.type_walks.specs.Links.{Live};
 ghost use Rattle.type_store.specs.Shape.{IsStore, IsCell, parts_of};
 ghost use Rattle.type_store.specs.Store.{Row};
 ghost use Rattle.type_store.specs.View.{field_view};
-ghost use Rattle.type_steps.specs.Laws.{EndLacks};
-ghost use Rattle.infer_base.specs.View.{here};
+ghost use Rattle.type_walks.specs.TypeStepsLaws.{EndLacks};
+ghost use Rattle.infer_steps.specs.View.{here};
 ghost use Rattle.infer_steps.specs.Made.{IsOpened, AreOpened, IsMade, Just, OfHead, OfList, OfFunctions, OfRow};
 
+use crate::state::State;
+use elm_base::names::Name;
 use elm_base::units::Units;
-use elm_names::name::Name;
 use elm_type::head::Head;
-use infer_base::state::State;
 use std::alloc::{AllocError, Global};
 use type_store::error::AddError;
 use type_store::slot::FieldSlot;

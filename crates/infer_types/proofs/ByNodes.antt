@@ -16,8 +16,8 @@ use Rattle.type_store.specs.Shape.{Ascending, IsCell, IsStore}
 use Rattle.type_walks.specs.Links.{Links, Live, Has}
 use Rattle.type_walks.proofs.Linking.{live_later, later_itself, agree_itself}
 use Rattle.type_walks.proofs.Walking.{rests}
-use Rattle.infer_base.specs.Codes.{State}
-use Rattle.infer_base.specs.Ready.{Follows}
+use Rattle.infer_steps.specs.Codes.{State}
+use Rattle.infer_steps.specs.Ready.{Follows}
 use Rattle.infer_steps.specs.Made.{IsMade, OfHead, OfRow}
 use Rattle.infer_types.specs.Stacks.{slots}
 use Rattle.infer_types.specs.Writing.{leaf_type, written, first_named, Waits, NodeWritten}

@@ -15,21 +15,21 @@ use Rattle.type_walks.specs.Links.{Links, Live, AreLive, Has}
 use Rattle.type_walks.specs.Walks.{Around, Walk}
 use Rattle.type_walks.proofs.Regions.{none_inside, apart_none, either_inside}
 use Rattle.type_walks.proofs.Walking.{rests, goes_on, widens}
-use Rattle.type_refusals.specs.Failing.{Bad, Fails}
-use Rattle.type_refusals.proofs.Passing.{passes_plain}
-use Rattle.type_refusals.proofs.Failing.{fails_after, fails_earlier}
+use Rattle.type_constructs.specs.Failing.{Bad, Fails}
+use Rattle.type_constructs.proofs.Passing.{passes_plain}
+use Rattle.type_constructs.proofs.Failing.{fails_after, fails_earlier}
 use Rattle.type_constructs.specs.Regions.{tops}
 use Rattle.type_constructs.proofs.Chains.{tells_same, tells_more, has_new, all_still}
 use Rattle.type_constructs.proofs.Parts.{tops_in_tops, only_in_tops, tops_apart_only, zip_both}
 use Rattle.type_constructs.proofs.Sizes.{instance_sizes, class_sizes}
 use Rattle.type_constructs.proofs.Spots.{Here, Child, Itself, Tops, In, atom_inside}
-use Rattle.type_steps.specs.Laws.{Lacking}
-use Rattle.infer_base.specs.Codes.{State}
+use Rattle.type_walks.specs.TypeStepsLaws.{Lacking}
+use Rattle.infer_steps.specs.Codes.{State}
 use Rattle.infer_steps.specs.Made.{IsOpened}
 use Rattle.infer_steps.specs.Asked.{AsksLacks, RefusesLacks}
 use Rattle.infer_steps.proofs.Stepping.{follows_itself, follows_on, still_live, all_still_live}
 use Rattle.infer_steps.proofs.Lacking.{both_walks, fails_later}
-use Rattle.infer_operators.specs.Operators.{AsksClassItems, RefusesClassItems}
+use Rattle.infer_steps.specs.Operators.{AsksClassItems, RefusesClassItems}
 use Rattle.infer_types.specs.Instances.{IsOfKind, NoneOfKind, AreOfKinds, NoneOfKinds}
 use Rattle.infer_types.proofs.Loops.{lacking_later}
 

@@ -18,15 +18,15 @@ use Rattle.type_walks.specs.Walks.{Around, Walk}
 use Rattle.type_walks.proofs.Regions.{none_inside, apart_none, either_inside}
 use Rattle.type_walks.proofs.Linking.{all_live_later}
 use Rattle.type_walks.proofs.Walking.{goes_on, widens, forgets}
-use Rattle.type_refusals.specs.Failing.{Bad, Fails}
+use Rattle.type_constructs.specs.Failing.{Bad, Fails}
 use Rattle.type_constructs.specs.Regions.{tops}
 use Rattle.type_constructs.proofs.Chains.{tells_on, all_still}
 use Rattle.type_constructs.proofs.Parts.{zip_both, zip_length}
 use Rattle.type_constructs.proofs.Spots.{Here, Tops, In, atom_inside}
-use Rattle.type_steps.specs.Laws.{Lacking}
-use Rattle.infer_base.specs.Codes.{Declared, State}
-use Rattle.infer_base.specs.Ready.{IsBelow, IsWritten, DeclaredReady}
-use Rattle.infer_base.specs.Means.{own_or_constant, IsDeclared}
+use Rattle.type_walks.specs.TypeStepsLaws.{Lacking}
+use Rattle.infer_steps.specs.Codes.{Declared, State}
+use Rattle.infer_steps.specs.Ready.{IsBelow, IsWritten, DeclaredReady}
+use Rattle.infer_steps.specs.Means.{own_or_constant, IsDeclared}
 use Rattle.infer_steps.proofs.Stepping.{follows_on, all_still_live}
 use Rattle.infer_types.specs.Writing.{leaf_type, written, CanWrite, Writes}
 use Rattle.infer_types.specs.Instances.{AreOfKinds, NoneOfKinds, IsInstance, NoInstance, elsewhere}

@@ -24,3 +24,19 @@ pub mod Parting
 pub mod Shaping
 -- uses of names
 pub mod Using
+-- the type of an annotation over numbers
+pub mod Typing
+-- kinds that are asked of variables
+pub mod Kinding
+-- the variables of an annotation by their numbers
+pub mod Numbering
+-- the type of an annotation over constants
+pub mod Constants
+-- the annotation's own variables
+pub mod Owning
+-- annotations inside no others
+pub mod Topmost
+-- where the table places each name
+pub mod Placing
+-- the type with the annotation's own variables first
+pub mod Standing

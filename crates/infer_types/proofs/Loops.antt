@@ -10,16 +10,16 @@ use Rattle.elm_type.specs.declared.node.Leaf.TheVariants as leaf
 use Rattle.elm_type.specs.declared.node.Node.{Node}
 use Rattle.elm_type.specs.declared.node.Node.TheVariants as node
 use Rattle.elm_type.proofs.Reading.{read_spelled}
-use Rattle.ground_types.specs.Ground.{lacks_all}
+use Rattle.elm_type.specs.Ground.{lacks_all}
 use Rattle.type_store.specs.Store.{FieldSlot, Store}
 use Rattle.type_store.specs.Shape.{IsStore, AllIn}
 use Rattle.type_store.proofs.Lacking.{lacks_part}
 use Rattle.type_walks.specs.Links.{Live}
 use Rattle.type_walks.proofs.Walking.{rests}
-use Rattle.type_steps.specs.Laws.{Lacking}
+use Rattle.type_walks.specs.TypeStepsLaws.{Lacking}
 use Rattle.type_constructs.proofs.Chains.{tells_same, tells_on, all_still}
-use Rattle.infer_base.specs.Codes.{State}
-use Rattle.infer_base.specs.Ready.{Follows}
+use Rattle.infer_steps.specs.Codes.{State}
+use Rattle.infer_steps.specs.Ready.{Follows}
 use Rattle.infer_steps.proofs.Stepping.{follows_itself, follows_on}
 use Rattle.infer_steps.proofs.Lacking.{both_walks}
 use Rattle.infer_types.specs.Stacks.{names}

@@ -16,12 +16,12 @@ use Rattle.elm_type.specs.declared.node.Leaf.TheVariants as leaf
 use Rattle.elm_type.specs.declared.node.Node.{Node}
 use Rattle.elm_type.specs.declared.node.Node.TheVariants as node
 use Rattle.elm_type.proofs.Reading.{read_spelled}
-use Rattle.ground_types.specs.Ground.{contains}
+use Rattle.elm_type.specs.Ground.{contains}
 use Rattle.type_items.specs.Principal.{is_formed, are_formed, fields_formed, end_lacks, end_lacks_each}
 use Rattle.type_store.specs.Shape.{Ascending, AllIn}
 use Rattle.type_store.proofs.Names.{lt_trans}
 use Rattle.type_store.proofs.RowsMeet.{and_left, and_right}
-use Rattle.infer_base.specs.Ready.{IsBelow}
+use Rattle.infer_steps.specs.Ready.{IsBelow}
 
 -- ---- fields in order
 

@@ -20,8 +20,8 @@ use Rattle.type_walks.proofs.Cleaning.{all_first, all_second}
 use Rattle.type_walks.proofs.Walking.{rests}
 use Rattle.type_constructs.proofs.Chains.{tells_same, tells_on, all_still}
 use Rattle.type_constructs.proofs.Parts.{zip_both}
-use Rattle.infer_base.specs.Codes.{State}
-use Rattle.infer_base.specs.Ready.{IsBelow}
+use Rattle.infer_steps.specs.Codes.{State}
+use Rattle.infer_steps.specs.Ready.{IsBelow}
 use Rattle.infer_steps.proofs.Stepping.{follows_itself, follows_on, all_still_live}
 use Rattle.infer_steps.proofs.Lacking.{both_walks}
 use Rattle.infer_types.specs.Writing.{written, CanWrite, Writes}

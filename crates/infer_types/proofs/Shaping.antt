@@ -18,14 +18,14 @@ use Rattle.type_walks.specs.Walks.{Around, Walk}
 use Rattle.type_walks.proofs.Cleaning.{all_first, all_second}
 use Rattle.type_walks.proofs.Regions.{none_inside, apart_none, either_inside}
 use Rattle.type_walks.proofs.Walking.{goes_on, widens}
-use Rattle.type_refusals.specs.Failing.{Bad}
+use Rattle.type_constructs.specs.Failing.{Bad}
 use Rattle.type_constructs.specs.Regions.{tops}
 use Rattle.type_constructs.specs.Binding.{Shaped}
 use Rattle.type_constructs.proofs.Chains.{tells_on}
 use Rattle.type_constructs.proofs.Spots.{Here, Tops, In, atom_inside}
-use Rattle.infer_base.specs.Codes.{State}
-use Rattle.infer_base.specs.Ready.{IsBelow, IsWritten}
-use Rattle.infer_base.specs.Means.{own_or_constant}
+use Rattle.infer_steps.specs.Codes.{State}
+use Rattle.infer_steps.specs.Ready.{IsBelow, IsWritten}
+use Rattle.infer_steps.specs.Means.{own_or_constant}
 use Rattle.infer_steps.proofs.Stepping.{follows_on}
 use Rattle.infer_types.specs.Writing.{written, CanWrite}
 use Rattle.infer_types.specs.Functions.{parameters_in, result_in, FunctionWritten}

@@ -25,13 +25,13 @@ use Rattle.type_walks.specs.Walks.{Around, Walk}
 use Rattle.type_walks.proofs.Regions.{none_inside}
 use Rattle.type_walks.proofs.Linking.{agree_itself}
 use Rattle.type_walks.proofs.Walking.{widens}
-use Rattle.type_copies.specs.Frozen.{Frozen}
-use Rattle.type_copies.specs.Says.{Says, Instantiates}
-use Rattle.type_copies.proofs.Saying.{says_with_more, copies}
-use Rattle.type_refusals.specs.Passing.{Passes, NoSizes}
-use Rattle.type_refusals.specs.Failing.{Bad, Fails}
-use Rattle.type_refusals.proofs.Passing.{passes_plain}
-use Rattle.type_refusals.proofs.Failing.{fails_earlier}
+use Rattle.type_walks.specs.Frozen.{Frozen}
+use Rattle.type_walks.specs.Says.{Says, Instantiates}
+use Rattle.type_walks.proofs.Saying.{says_with_more, copies}
+use Rattle.type_constructs.specs.Passing.{Passes, NoSizes}
+use Rattle.type_constructs.specs.Failing.{Bad, Fails}
+use Rattle.type_constructs.proofs.Passing.{passes_plain}
+use Rattle.type_constructs.proofs.Failing.{fails_earlier}
 use Rattle.type_constructs.specs.Stepping.{Step}
 use Rattle.type_constructs.proofs.Walking.{walks_copy}
 use Rattle.type_constructs.proofs.Running.{plain}
@@ -39,12 +39,12 @@ use Rattle.type_constructs.proofs.Stops.{past, ends, stopped}
 use Rattle.type_constructs.proofs.Spots.{Here, Child, Below, Nowhere, In, atom_inside}
 use Rattle.type_constructs.proofs.Sizes.{instance_sizes}
 use Rattle.type_constructs.proofs.Chains.{tells_same, tells_more, has_new, has_still}
-use Rattle.infer_base.specs.Codes.{Declared, Meaning, One, Many, Each, Code, State}
-use Rattle.infer_base.specs.Ready.{Follows}
-use Rattle.infer_base.specs.View.{meaning_view}
-use Rattle.infer_base.specs.declared.scope.Meaning.{Meaning as Kept}
-use Rattle.infer_base.specs.Means.{IsDeclared, MeansEntry, Setting}
-use Rattle.infer_base.specs.Promises.{Walked, Stopped}
+use Rattle.infer_steps.specs.Codes.{Declared, Meaning, One, Many, Each, Code, State}
+use Rattle.infer_steps.specs.Ready.{Follows}
+use Rattle.infer_steps.specs.View.{meaning_view}
+use Rattle.infer_steps.specs.declared.scope.Meaning.{Meaning as Kept}
+use Rattle.infer_steps.specs.Means.{IsDeclared, MeansEntry, Setting}
+use Rattle.infer_steps.specs.Promises.{Walked, Stopped}
 use Rattle.infer_steps.specs.Asked.{AsksSame, RefusesSame, IsNonsense}
 use Rattle.infer_steps.proofs.Stepping.{follows_on}
 use Rattle.infer_types.specs.Instances.{IsInstance, NoInstance, elsewhere}

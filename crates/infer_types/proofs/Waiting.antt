@@ -12,7 +12,7 @@ use Rattle.elm_type.specs.declared.node.Node.TheVariants as node
 use Rattle.type_items.specs.Items.{Wanted}
 use Rattle.type_store.specs.Store.{FieldSlot}
 use Rattle.type_walks.specs.Links.{Links, Has, Tells}
-use Rattle.type_steps.specs.Laws.{typed_fields}
+use Rattle.type_walks.specs.TypeStepsLaws.{typed_fields}
 use Rattle.infer_types.specs.Stacks.{slots}
 use Rattle.infer_types.specs.Writing.{leaf_type, written, node_names, Waits}
 

@@ -11,8 +11,8 @@ use Rattle.type_store.specs.Store.{Store}
 use Rattle.type_walks.specs.Regions.{none}
 use Rattle.type_walks.specs.Links.{Links, Live, AreLive, Has, Tells}
 use Rattle.type_walks.specs.Walks.{Around, Walk}
-use Rattle.infer_base.specs.Codes.{State}
-use Rattle.infer_base.specs.Ready.{Follows}
+use Rattle.infer_steps.specs.Codes.{State}
+use Rattle.infer_steps.specs.Ready.{Follows}
 use Rattle.infer_types.specs.Writing.{written}
 
 -- fewer, where the type has fewer arrows

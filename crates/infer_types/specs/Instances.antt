@@ -10,13 +10,13 @@ use Rattle.type_store.specs.Store.{Store}
 use Rattle.type_walks.specs.Regions.{only, below}
 use Rattle.type_walks.specs.Links.{Links, Live, AreLive, Has, Tells}
 use Rattle.type_walks.specs.Walks.{Around, Walk}
-use Rattle.type_refusals.specs.Failing.{Bad, Fails}
+use Rattle.type_constructs.specs.Failing.{Bad, Fails}
 use Rattle.type_constructs.specs.Regions.{tops}
 use Rattle.type_constructs.specs.Binding.{Shaped}
-use Rattle.type_steps.specs.Laws.{Lacking}
-use Rattle.infer_base.specs.Codes.{Declared, State}
-use Rattle.infer_base.specs.Ready.{Follows}
-use Rattle.infer_base.specs.Means.{IsDeclared}
+use Rattle.type_walks.specs.TypeStepsLaws.{Lacking}
+use Rattle.infer_steps.specs.Codes.{Declared, State}
+use Rattle.infer_steps.specs.Ready.{Follows}
+use Rattle.infer_steps.specs.Means.{IsDeclared}
 
 -- ---- variables of kinds
 

@@ -3,3 +3,9 @@ pub mod Writing
 pub mod Functions
 pub mod Instances
 pub mod Uses
+pub mod Once
+pub mod Asking
+pub mod Fixing
+pub mod Own
+pub mod Top
+pub mod Table

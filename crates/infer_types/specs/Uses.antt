@@ -9,12 +9,12 @@ use Rattle.type_store.specs.Store.{Store}
 use Rattle.type_walks.specs.Regions.{below}
 use Rattle.type_walks.specs.Links.{Links, AreLive, Has}
 use Rattle.type_walks.specs.Walks.{Around, Walk}
-use Rattle.type_refusals.specs.Passing.{Passes}
-use Rattle.type_refusals.specs.Failing.{Bad, Fails}
-use Rattle.infer_base.specs.Codes.{Meaning, State}
-use Rattle.infer_base.specs.Means.{MeansEntry}
-use Rattle.infer_base.specs.Ready.{Follows}
-use Rattle.infer_base.specs.Promises.{Listing}
+use Rattle.type_constructs.specs.Passing.{Passes}
+use Rattle.type_constructs.specs.Failing.{Bad, Fails}
+use Rattle.infer_steps.specs.Codes.{Meaning, State}
+use Rattle.infer_steps.specs.Means.{MeansEntry}
+use Rattle.infer_steps.specs.Ready.{Follows}
+use Rattle.infer_steps.specs.Promises.{Listing}
 
 -- a name that is used
 abbrev pub used : Ref → Pos → Listing

@@ -16,10 +16,10 @@ use Rattle.type_store.specs.Shape.{Ascending}
 use Rattle.type_walks.specs.Regions.{none}
 use Rattle.type_walks.specs.Links.{Links, Live, AreLive, Has, Tells}
 use Rattle.type_walks.specs.Walks.{Around, Walk}
-use Rattle.type_steps.specs.Laws.{Lacking}
+use Rattle.type_walks.specs.TypeStepsLaws.{Lacking}
 use Rattle.type_constructs.specs.Binding.{Typed}
-use Rattle.infer_base.specs.Codes.{State}
-use Rattle.infer_base.specs.Ready.{IsBelow, Follows}
+use Rattle.infer_steps.specs.Codes.{State}
+use Rattle.infer_steps.specs.Ready.{IsBelow, Follows}
 use Rattle.infer_types.specs.Stacks.{slots}
 
 -- the type with these for its variables

@@ -3,22 +3,22 @@
 ghost use Rattle.std.specs.Prelude.{◌≡◌, ◌∷◌, [], ◌++◌, Err, IfOk, OnOk, map};
 ghost use Rattle.elm_type.specs.View.{kind_view, scheme_view};
 ghost use Rattle.type_store.specs.Shape.{IsStore};
-ghost use Rattle.infer_base.specs.View.{here, bad_view, declared_view};
-ghost use Rattle.infer_base.specs.Ready.{IsWritten, DeclaredReady};
-ghost use Rattle.infer_base.specs.declared.bad.Bad.{Bad};
-ghost use Rattle.infer_base.specs.declared.bad.InferError.TheVariants as error;
+ghost use Rattle.infer_steps.specs.View.{here, bad_view, declared_view};
+ghost use Rattle.infer_steps.specs.Ready.{IsWritten, DeclaredReady};
+ghost use Rattle.infer_steps.specs.declared.bad.Bad.{Bad};
+ghost use Rattle.infer_steps.specs.declared.bad.InferError.TheVariants as error;
 ghost use Rattle.infer_types.specs.Instances.{IsOfKind, NoneOfKind, AreOfKinds, NoneOfKinds, IsInstance, NoInstance};
 ghost use Rattle.infer_types.specs.Instances.{over, elsewhere, Constructs, NoConstructor};
 
 use crate::writing::{Parts, write, write_parts};
 use elm_base::position::Pos;
 use elm_type::scheme::{Kind, Scheme};
-use infer_base::bad::InferError;
-use infer_base::scope::Declared;
-use infer_base::state::State;
-use infer_operators::operator::in_some_class;
 use infer_steps::ask::lacks_each;
+use infer_steps::bad::InferError;
 use infer_steps::make::open;
+use infer_steps::operator::in_some_class;
+use infer_steps::scope::Declared;
+use infer_steps::state::State;
 use std::alloc::{AllocError, Global};
 
 /// Makes a variable of a kind.

@@ -2,7 +2,12 @@
 #![tactic(auto)]
 
 mod arrows;
+pub mod asking;
+pub mod declaring;
+pub mod fixing;
 pub mod instances;
 pub mod names;
+pub mod own;
 mod stack;
+pub mod top;
 pub mod writing;

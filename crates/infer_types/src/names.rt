@@ -3,26 +3,26 @@
 ghost use Rattle.std.specs.Prelude.{◌≡◌, Err, OnOk, Some, None};
 ghost use Rattle.type_store.specs.Shape.{IsStore};
 ghost use Rattle.type_walks.specs.Links.{Live};
-ghost use Rattle.infer_base.specs.Codes as codes;
-ghost use Rattle.infer_base.specs.View.{here, bad_view, known_view, declared_view, meaning_view, code_of};
-ghost use Rattle.infer_base.specs.Promises.{Walked, Stopped};
-ghost use Rattle.infer_base.specs.Ready.{AreWritten, DeclaredReady, FrozenReady, MeaningReady, IsReady, Follows};
-ghost use Rattle.infer_base.specs.declared.bad.Bad.{Bad};
-ghost use Rattle.infer_base.specs.declared.bad.InferError.TheVariants as error;
-ghost use Rattle.type_freezing.specs.View.{frozen_view};
+ghost use Rattle.infer_steps.specs.Codes as codes;
+ghost use Rattle.infer_steps.specs.View.{here, bad_view, known_view, declared_view, meaning_view, code_of};
+ghost use Rattle.infer_steps.specs.Promises.{Walked, Stopped};
+ghost use Rattle.infer_steps.specs.Ready.{AreWritten, DeclaredReady, FrozenReady, MeaningReady, IsReady, Follows};
+ghost use Rattle.infer_steps.specs.declared.bad.Bad.{Bad};
+ghost use Rattle.infer_steps.specs.declared.bad.InferError.TheVariants as error;
+ghost use Rattle.type_schemes.specs.View.{frozen_view};
 ghost use Rattle.infer_types.specs.Uses.{used, EntryOf, Elsewhere, Uses, NoUse};
 
 use crate::instances;
 use elm_base::position::Pos;
 use elm_canon::reference::Ref;
-use infer_base::bad::InferError;
-use infer_base::known::Known;
-use infer_base::scope::{Declared, Meaning, Scope};
-use infer_base::state::State;
 use infer_steps::ask::{nonsense, same};
+use infer_steps::bad::InferError;
+use infer_steps::known::Known;
+use infer_steps::scope::{Declared, Meaning, Scope};
+use infer_steps::state::State;
 use std::alloc::Global;
-use type_freezing::frozen::Frozen;
-use type_thawing::copying::instantiate;
+use type_schemes::copying::instantiate;
+use type_schemes::frozen::Frozen;
 
 /// A name of one type.
 fn use_one(state: &mut State, position: Pos, variable: u32, wanted: u32) -> Result<(), InferError>

@@ -9,23 +9,23 @@ ghost use Rattle.elm_type.specs.declared.node.Node.TheVariants as node;
 ghost use Rattle.type_store.specs.Shape.{IsStore, Ascending};
 ghost use Rattle.type_store.specs.View.{field_view};
 ghost use Rattle.type_walks.specs.Links.{Live};
-ghost use Rattle.infer_base.specs.View.{here};
+ghost use Rattle.infer_steps.specs.View.{here};
 ghost use Rattle.infer_types.specs.Stacks.{waiting, slots, names};
 ghost use Rattle.infer_types.specs.Writing.{LeafFits, NodeFits, NodeWritten, CanWrite, Writes};
 ghost use Rattle.infer_types.specs.Functions.{FunctionWritten};
 
 use crate::arrows::parameter_lengths;
 use crate::stack::take_parts;
+use elm_base::names::Name;
 use elm_base::units::Units;
-use elm_names::name::Name;
 use elm_type::head::Head;
 use elm_type::node::{Leaf, Node};
 use elm_type::ty::Ty;
-use infer_base::state::State;
 use infer_steps::make::{built, row};
+use infer_steps::state::State;
 use std::alloc::{AllocError, Global};
-use type_steps::laws::lack_law;
 use type_store::slot::FieldSlot;
+use type_walks::type_steps_laws::lack_law;
 
 /// The variables of fields.
 fn slots_of(alloc: Global, fields: &[FieldSlot]) -> Result<Vec<u32>, AllocError>

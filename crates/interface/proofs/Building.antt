@@ -1,5 +1,5 @@
 -- The types of declarations that steps make are those whose steps they are.
-use Rattle.std.proofs.Common.{◌≡◌, List, [], ◌∷◌, ◌++◌, Option, Some, None, refl, sym, ap, ◌∙◌, subst, append_assoc, append-nil}
+use Rattle.std.proofs.Common.{◌≡◌, List, [], ◌∷◌, ◌++◌, Option, Some, None, refl, sym, ap, ◌∙◌, append_assoc, append-nil}
 use Rattle.elm_canon.specs.Names.{Name}
 use Rattle.elm_canon.specs.Tree.{Annotation, Annotations, FieldTypes, Variable, NamedType, FunctionType, TupleType}
 use Rattle.elm_canon.specs.Tree.{RecordType, ExtendedType, NoAnnotation, MoreAnnotation, NoFieldType, MoreFieldType}

@@ -1,18 +1,18 @@
 -- The steps of a type of the program, by its parts.
-use Rattle.std.proofs.Common.{◌≡◌, ℕ, zero, suc, ◌+◌, ◌<◌, List, [], ◌∷◌, ◌++◌, map, length, get_or, take, Option, Some, None, Vec, Global, refl, sym, ap, ◌∙◌, append_assoc, append-nil, arith}
+use Rattle.std.proofs.Common.{◌≡◌, ℕ, zero, suc, ◌+◌, List, [], ◌∷◌, ◌++◌, map, length, get_or, take, Option, Some, None, Vec, Global, refl, sym, ap, ◌∙◌, append_assoc, append-nil, arith}
 use Rattle.std.specs.List.{flat_map}
 use Rattle.std.specs.declared.sync.Arc.{Arc}
 use Rattle.elm_canon.specs.Names.{Name}
 use Rattle.elm_canon.specs.Tree as plain
 use Rattle.elm_canon.specs.Tree.{annotations_of, field_types_of}
-use Rattle.elm_canon.specs.View.{NamedType, annotation_view, field_type_view, function_to, function_type, types_view}
+use Rattle.elm_canon.specs.View.{NamedType, annotation_view, field_type_view, function_to, function_type}
 use Rattle.elm_canon.specs.declared.tree.Annotation.{Annotation}
 use Rattle.elm_canon.specs.declared.tree.Annotation.TheVariants as annotation
 use Rattle.elm_canon.specs.declared.tree.FieldType.{FieldType}
 use Rattle.elm_canon.proofs.Views.{variable_type, named_type, type_of_function, tuple_type, type_of_record, shared_type, field_type}
 use Rattle.interface.specs.declared.step.Step.{Step}
 use Rattle.interface.specs.declared.step.Step.TheVariants as step
-use Rattle.interface.specs.Steps.{steps_of, steps_of_parts, steps_of_fields, steps_of_all, part_steps, parameter_steps, field_steps}
+use Rattle.interface.specs.Steps.{steps_of, steps_of_parts, steps_of_fields, steps_of_all, part_steps, parameter_steps, field_steps, record_step}
 
 parts_are : (ts : List plain.Annotation) (last : Step) → steps_of_parts (annotations_of ts) last ≡ flat_map part_steps ts ++ last ∷ []
 unfolding steps_of
@@ -38,13 +38,17 @@ pub tuple_steps : (ts : Vec Annotation Global) → steps_of (annotation_view (an
 unfolding steps_of
 tuple_steps ts = ap steps_of (tuple_type ts) ∙ parts_are (map annotation_view ts.items) step.Tuple
 
-pub record_steps : (fs : Vec FieldType Global) → steps_of (annotation_view (annotation.Record None fs)) ≡ flat_map field_steps (map field_type_view fs.items) ++ step.Record ∷ []
+record_steps : (fs : Vec FieldType Global) → steps_of (annotation_view (annotation.Record None fs)) ≡ flat_map field_steps (map field_type_view fs.items) ++ step.Record ∷ []
 unfolding steps_of
 record_steps fs = ap steps_of (type_of_record None fs) ∙ fields_are (map field_type_view fs.items) step.Record
 
-pub extended_steps : (a : Name) (fs : Vec FieldType Global) → steps_of (annotation_view (annotation.Record (Some a) fs)) ≡ flat_map field_steps (map field_type_view fs.items) ++ step.Extended a ∷ []
+extended_steps : (a : Name) (fs : Vec FieldType Global) → steps_of (annotation_view (annotation.Record (Some a) fs)) ≡ flat_map field_steps (map field_type_view fs.items) ++ step.Extended a ∷ []
 unfolding steps_of
 extended_steps a fs = ap steps_of (type_of_record (Some a) fs) ∙ fields_are (map field_type_view fs.items) (step.Extended a)
+
+pub any_record_steps : (base : Option Name) (fs : Vec FieldType Global) → steps_of (annotation_view (annotation.Record base fs)) ≡ flat_map field_steps (map field_type_view fs.items) ++ record_step base ∷ []
+any_record_steps None fs = record_steps fs
+any_record_steps (Some a) fs = extended_steps a fs
 
 pub function_steps : (ts : Vec Annotation Global) → steps_of (annotation_view (annotation.Function ts)) ≡ steps_of (function_type (map annotation_view ts.items))
 function_steps ts = ap steps_of (type_of_function ts)

@@ -1,8 +1,8 @@
 -- What is read is what was written, and what was written is read.
-use Rattle.std.proofs.Common.{◌≡◌, ℕ, zero, suc, ◌+◌, ◌<◌, ◌≤◌, List, [], ◌∷◌, ◌++◌, length, Option, Some, None, Bool, true}
-use Rattle.std.proofs.Common.{false, not, ◌&&◌, ◌==◌, if◌then◌else◌, refl, sym, ap, ◌∙◌, subst, append_assoc, append-nil, arith, ltb, eqb, cond}
+use Rattle.std.proofs.Common.{◌≡◌, ℕ, zero, suc, ◌<◌, ◌≤◌, List, [], ◌∷◌, ◌++◌, length, Option, Some, None, Bool, true}
+use Rattle.std.proofs.Common.{false, ◌&&◌, ◌==◌, if◌then◌else◌, refl, sym, ap, ◌∙◌, subst, append_assoc, append-nil, arith}
 use Rattle.std.specs.List.{flat_map, list_all}
-use Rattle.interface.specs.Formats.{◌>>=◌, Format, pair, made_of, checked, times, list, nothing, Either, First, Other, either}
+use Rattle.interface.specs.Formats.{◌>>=◌, Format, pair, made_of, checked, times, list, nothing, Either, First, Other}
 use Rattle.interface.specs.Formats.{Forms, form, form_or, choice, whole}
 
 -- what a step that gave something was

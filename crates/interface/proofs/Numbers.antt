@@ -1,11 +1,11 @@
 -- A number is read as it was written.
 use Rattle.std.proofs.Common.{◌≡◌, ℕ, zero, suc, ◌+◌, ◌-◌, ◌*◌, ◌/◌, ◌%◌, ◌^◌, ◌<◌, ◌≤◌, List, [], ◌∷◌, ◌++◌, Option, Some, None, Bool, true, false}
-use Rattle.std.proofs.Common.{not, ◌&&◌, ◌==◌, if◌then◌else◌, nat_lt, refl, sym, ap, ◌∙◌, subst, append_assoc, arith}
+use Rattle.std.proofs.Common.{not, ◌==◌, if◌then◌else◌, nat_lt, refl, sym, ap, ◌∙◌, subst, append_assoc, arith}
 use Rattle.std.specs.Prelude.{decimal}
 use Rattle.std.proofs.lemmas.Bool.Decides.{nat_tests}
 use Rattle.std.proofs.lemmas.Fmt.{decimal_digit, decimal_step, decimal_by_steps}
-use Rattle.interface.specs.Formats.{◌>>=◌, Format, number, is_digit, with_digit, digit_of, digits_at, zero_at, number_at}
-use Rattle.interface.proofs.Laws.{bind_some, some_is, Takes, Lawful}
+use Rattle.interface.specs.Formats.{◌>>=◌, number, is_digit, with_digit, digit_of, digits_at, zero_at, number_at}
+use Rattle.interface.proofs.Laws.{bind_some, some_is, Lawful}
 
 -- ---- one digit
 

@@ -1,5 +1,5 @@
 -- Steps in front of types that were read.
-use Rattle.std.proofs.Common.{◌≡◌, List, [], ◌∷◌, ◌++◌, map, reverse, Option, Some, None, Bool, true, false, Vec, Global, if◌then◌else◌, refl, sym, ap, ◌∙◌, arith}
+use Rattle.std.proofs.Common.{◌≡◌, ℕ, zero, suc, ◌≤◌, length, slice_set, slice_index_or, List, [], ◌∷◌, ◌++◌, map, reverse, Option, Some, None, Bool, true, false, Vec, Global, Result, Ok, Err, IfOk, if◌then◌else◌, refl, sym, subst, ap, ◌∙◌, arith}
 use Rattle.std.proofs.lemmas.List.{map-append, reverse-append}
 use Rattle.elm_canon.specs.Tree as plain
 use Rattle.elm_canon.specs.Tree.{annotations_of, field_types_of}
@@ -11,8 +11,8 @@ use Rattle.elm_canon.specs.declared.tree.FieldType.{FieldType}
 use Rattle.elm_canon.proofs.Views.{named_type, type_of_function, tuple_type, type_of_record}
 use Rattle.interface.specs.declared.step.Step.{Step}
 use Rattle.interface.specs.Formats.{◌>>=◌}
-use Rattle.interface.specs.Steps.{stepped, built}
-use Rattle.interface.specs.Opened.{function_of, opened_view, stack_view}
+use Rattle.interface.specs.Steps.{stepped, built, joined, with_part, with_field}
+use Rattle.interface.specs.Opened.{opened_view, stack_view}
 use Rattle.interface.specs.declared.opened.Opened.{Opened}
 use Rattle.interface.specs.declared.opened.Opened.TheVariants as opened
 
@@ -35,14 +35,38 @@ onto_refused (s ∷ ss) = ap (λ (r : Option (List plain.Annotation)). r >>= ste
 
 -- ---- functions
 
-last_of_function : (u t : plain.Annotation) (ps : List plain.Annotation) → function_to u (ps ++ t ∷ []) ≡ plain.FunctionType u (function_of ps t)
-last_of_function u t [] = refl
-last_of_function u t (p ∷ ps) = ap (plain.FunctionType u) (last_of_function p t ps)
+length_push : (rs : List plain.Annotation) (t : plain.Annotation) → length (rs ++ t ∷ []) ≡ suc (length rs)
+length_push [] t = refl
+length_push (r ∷ rs) t = ap suc (length_push rs t)
 
--- the parameters, and then the result
-pub whole_function : (ps : List plain.Annotation) (t : plain.Annotation) → function_type (ps ++ t ∷ []) ≡ function_of ps t
-whole_function [] t = refl
-whole_function (p ∷ ps) t = last_of_function p t ps
+-- two types or more are those of a function
+some_function : (rs : List plain.Annotation) → 2 ≤ length rs → (p : plain.Annotation) × (q : plain.Annotation) × (function_type rs ≡ plain.FunctionType p q)
+some_function [] h = absurd (omega (arith, h))
+some_function (p ∷ []) h = absurd (omega (arith, h))
+some_function (p ∷ q ∷ rs) h = (p, function_to q rs, refl)
+
+counted : (ts : List Annotation) → length (reverse (map annotation_view ts)) ≡ length ts
+counted [] = refl
+counted (t ∷ ts) =
+    ap length (reverse-append (annotation_view t ∷ []) (map annotation_view ts)) ∙ length_push (reverse (map annotation_view ts)) (annotation_view t) ∙ ap suc (counted ts)
+
+in_reverse : (n : ℕ) (ts : List Annotation) → n ≤ length ts → n ≤ length (reverse (map annotation_view ts))
+in_reverse n ts h = subst (λ (k : ℕ). n ≤ k) (sym (counted ts)) h
+
+pub no_part : (t : plain.Annotation) (ts : List Annotation) → 2 ≤ length ts → with_part t (function_type (reverse (map annotation_view ts))) ≡ None
+no_part t ts h = ap (with_part t) (some_function (reverse (map annotation_view ts)) (in_reverse 2 ts h)).2
+
+pub no_field : (k : Name) (t : plain.Annotation) (ts : List Annotation) → 2 ≤ length ts → with_field k t (function_type (reverse (map annotation_view ts))) ≡ None
+no_field k t ts h = ap (with_field k t) (some_function (reverse (map annotation_view ts)) (in_reverse 2 ts h)).2
+
+in_front : (p : plain.Annotation) (rs : List plain.Annotation) → 1 ≤ length rs → function_type (p ∷ rs) ≡ plain.FunctionType p (function_type rs)
+in_front p [] h = absurd (omega (arith, h))
+in_front p (q ∷ rs) h = refl
+
+-- one more parameter
+pub one_more_parameter : (p : Annotation) (ts us : List Annotation) → 1 ≤ length ts → reverse (map annotation_view us) ≡ annotation_view p ∷ reverse (map annotation_view ts)
+    → function_type (reverse (map annotation_view us)) ≡ plain.FunctionType (annotation_view p) (function_type (reverse (map annotation_view ts)))
+one_more_parameter p ts us h e = ap function_type e ∙ in_front (annotation_view p) (reverse (map annotation_view ts)) (in_reverse 1 ts h)
 
 -- ---- types to which nothing more is added
 
@@ -70,12 +94,9 @@ closed_record (Some a) fs gs e =
     type_of_record (Some a) gs ∙ ap (λ (hs : List FieldType). plain.ExtendedType a (field_types_of (map field_type_view hs))) e
     ∙ ap (λ (hs : List (Name × plain.Annotation)). plain.ExtendedType a (field_types_of hs)) (reversed_map field_type_view fs.items)
 
-pub closed_function : (ts all us : Vec Annotation Global) (p t : Annotation) → reverse (map annotation_view all.items) ≡ annotation_view p ∷ reverse (map annotation_view ts.items)
-    → us.items ≡ reverse all.items ++ t ∷ [] → annotation_view (annotation.Function us) ≡ opened_view (opened.Function ts p t)
-closed_function ts all us p t h e =
-    type_of_function us ∙ ap (λ (vs : List Annotation). function_type (map annotation_view vs)) e
-    ∙ ap function_type (map-append annotation_view (reverse all.items) (t ∷ []) ∙ ap (λ (vs : List plain.Annotation). vs ++ annotation_view t ∷ []) (reversed_map annotation_view all.items))
-    ∙ whole_function (reverse (map annotation_view all.items)) (annotation_view t) ∙ ap (λ (vs : List plain.Annotation). function_of vs (annotation_view t)) h
+pub closed_function : (ts us : Vec Annotation Global) → us.items ≡ reverse ts.items → annotation_view (annotation.Function us) ≡ function_type (reverse (map annotation_view ts.items))
+closed_function ts us e =
+    type_of_function us ∙ ap (λ (vs : List Annotation). function_type (map annotation_view vs)) e ∙ ap function_type (reversed_map annotation_view ts.items)
 
 -- ---- one more, in front
 
@@ -90,3 +111,30 @@ more_part ts us t e = ap (λ (vs : List Annotation). reverse (map annotation_vie
 
 pub more_field : (fs gs : List FieldType) (f : FieldType) → gs ≡ fs ++ f ∷ [] → reverse (map field_type_view gs) ≡ field_type_view f ∷ reverse (map field_type_view fs)
 more_field fs gs f e = ap (λ (hs : List FieldType). reverse (map field_type_view hs)) e ∙ reversed_push field_type_view fs f
+
+-- ---- the last item of a stack
+
+apart : (items : List Opened) (n : ℕ) (old : Opened) → suc n ≡ length items → old ≡ slice_index_or items n old
+    → (front : List Opened) × (items ≡ front ++ old ∷ []) × ((t : Opened) → slice_set items n t ≡ front ++ t ∷ [])
+apart [] n old e is = absurd (omega (arith, e))
+apart (x ∷ []) zero old e is = ([], ap (λ (y : Opened). y ∷ []) (sym is), λ t. refl)
+apart (x ∷ []) (suc n) old e is = absurd (omega (arith, e))
+apart (x ∷ y ∷ ys) zero old e is = absurd (omega (arith, e))
+apart (x ∷ y ∷ ys) (suc n) old e is =
+    let r = apart (y ∷ ys) n old (omega (arith, e)) is in (x ∷ r.0, ap (λ (zs : List Opened). x ∷ zs) r.1, λ t. ap (λ (zs : List Opened). x ∷ zs) (r.2 t))
+
+-- the first type is joined to the second in its place
+pub joined_last : {E : Type 0} (join : plain.Annotation → plain.Annotation → Option plain.Annotation) (all items : List Opened) (n : ℕ) (p : plain.Annotation) (old t : Opened) (done : Result Bool E)
+    → suc n ≡ length items → stack_view all ≡ p ∷ stack_view items → old ≡ slice_index_or items n old
+    → IfOk done (λ taken. join p (opened_view old) ≡ (if taken then Some (opened_view t) else None))
+    → IfOk done (λ taken. joined join (stack_view all) ≡ (if taken then Some (stack_view (slice_set items n t)) else None))
+joined_last join all items n p old t (Err e) count first is made = tt
+joined_last join all items n p old t (Ok taken) count first is made =
+    let r = apart items n old count is in
+    ap (joined join) (first ∙ ap (λ (zs : List Opened). p ∷ stack_view zs) r.1 ∙ ap (λ (zs : List plain.Annotation). p ∷ zs) (reversed_push opened_view r.0 old))
+    ∙ ap (λ (o : Option plain.Annotation). o >>= λ w. Some (w ∷ stack_view r.0)) made ∙ at r.0 (r.2 t) taken
+  where
+    at : (front : List Opened) → slice_set items n t ≡ front ++ t ∷ [] → (taken : Bool)
+        → ((if taken then Some (opened_view t) else None) >>= λ w. Some (w ∷ stack_view front)) ≡ (if taken then Some (stack_view (slice_set items n t)) else None)
+    at front e true = ap (λ (zs : List plain.Annotation). Some zs) (sym (ap stack_view e ∙ reversed_push opened_view front t))
+    at front e false = refl

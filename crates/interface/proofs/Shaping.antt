@@ -3,7 +3,7 @@ use Rattle.std.proofs.Common.{◌≡◌, ℕ, zero, suc, List, [], ◌∷◌, �
 use Rattle.elm_type.specs.Types.{Name, ElmType, ElmTypes, Fields, End, Closed, Over, Made, Record, NoType, MoreType, NoField}
 use Rattle.elm_type.specs.Types.{MoreField, count, count_fields, Leaf}
 use Rattle.elm_type.specs.Spelling.{leaf_of, leaf_node, record_node, spell, spell_all, spell_fields, Read, read_types, read_fields}
-use Rattle.elm_type.specs.Spelling.{with_name, read_node, read, first_read, type_of, AreSpelled}
+use Rattle.elm_type.specs.Spelling.{read_node, read, first_read, type_of, AreSpelled}
 use Rattle.elm_type.specs.declared.head.Head.{Head}
 use Rattle.elm_type.specs.declared.node.Leaf as stored
 use Rattle.elm_type.specs.declared.node.Leaf.TheVariants as leaf

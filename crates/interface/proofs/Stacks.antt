@@ -1,13 +1,11 @@
 -- A stack that holds what was read: the last item is the first type.
-use Rattle.std.proofs.Common.{◌≡◌, ◌≢◌, ℕ, zero, suc, ◌+◌, ◌-◌, ◌<◌, ◌≤◌, List, [], ◌∷◌, ◌++◌, length, get_or, drop, reverse, Option, Some, None, Bool, true, false, not, if◌then◌else◌, refl, sym, ap, ◌∙◌, arith}
+use Rattle.std.proofs.Common.{◌≡◌, ℕ, zero, suc, ◌+◌, ◌-◌, ◌<◌, ◌≤◌, List, [], ◌∷◌, ◌++◌, length, get_or, drop, reverse, Option, Some, None, Bool, true, false, not, if◌then◌else◌, refl, sym, ap, ◌∙◌, arith}
 use mathlib.Core.Bool.{beq}
 use Rattle.std.proofs.lemmas.Grind.{common_steps}
-use Rattle.elm_type.specs.Types.{ElmType, Leaf}
 use Rattle.elm_type.specs.Spelling.{type_of, AreSpelled}
 use Rattle.elm_type.specs.declared.node.Node.{Node}
 use Rattle.interface.specs.Formats.{◌>>=◌}
-use Rattle.interface.specs.Shapes.{left_after, left_after_fields, left_after_parts, shaped, shapes_of, is_one, are_shaped, type_at}
-use Rattle.interface.proofs.Laws.{bind_some}
+use Rattle.interface.specs.Shapes.{left_after, shaped, shapes_of, is_one, are_shaped, type_at}
 use Rattle.interface.proofs.Shaping.{are_spelled}
 
 pub reverse_push : {A : Type 0} (xs : List A) (x : A) → reverse (xs ++ x ∷ []) ≡ x ∷ reverse xs

@@ -1,6 +1,6 @@
 -- Types of declarations are read by the types of their steps.
 use Rattle.std.proofs.Common.{◌≡◌, ℕ, List, Option, Some, None, refl}
-use Rattle.elm_canon.specs.Tree.{Annotation, Annotations, annotations_of}
+use Rattle.elm_canon.specs.Tree.{Annotation, annotations_of}
 use Rattle.interface.specs.declared.step.Step.{Step}
 use Rattle.interface.specs.Formats.{◌>>=◌}
 use Rattle.interface.specs.Steps.{built, only_one}

@@ -1,8 +1,7 @@
 -- Interfaces and their texts.
-use Rattle.std.proofs.Common.{◌≡◌, ℕ, List, [], ◌∷◌, Option, Some, None, Bool, true, refl, sym, ap, ◌∙◌}
-use Rattle.elm_type.specs.Types.{ElmType, Leaf}
+use Rattle.std.proofs.Common.{◌≡◌, ℕ, List, Some, None, refl, sym, ap, ◌∙◌}
 use Rattle.elm_type.specs.Spelling.{spell}
-use Rattle.interface.specs.Formats.{pair, whole}
+use Rattle.interface.specs.Formats.{whole}
 use Rattle.interface.specs.Steps.{steps_of, steps_of_all, built_one, built_all}
 use Rattle.interface.specs.Shapes.{type_at}
 use Rattle.interface.specs.Interface.{Interface}

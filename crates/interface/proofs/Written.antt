@@ -1,6 +1,6 @@
 -- The formats of all that an interface has are lawful.
-use Rattle.std.proofs.Common.{◌≡◌, ℕ, List, [], ◌∷◌, Bool, true, false, Option, Some, None, pos, negsuc, refl, sym, ap, ◌∙◌, arith, lit<}
-use Rattle.elm_type.specs.Types.{Rigid, Kind, Scheme, ElmType, Leaf}
+use Rattle.std.proofs.Common.{◌≡◌, ℕ, Bool, true, false, pos, negsuc, refl, lit<}
+use Rattle.elm_type.specs.Types.{Rigid}
 use Rattle.elm_type.specs.declared.class.Class.{Class}
 use Rattle.elm_type.specs.declared.class.Class.TheVariants.{Any, Number, Comparable, Appendable, CompAppend}
 use Rattle.elm_type.specs.declared.head.Head.{Head}
@@ -12,10 +12,9 @@ use Rattle.elm_type.specs.declared.node.Leaf.TheVariants as leaf
 use Rattle.elm_canon.specs.Unions.{Union, TupleUnion, ListUnion, Declared}
 use Rattle.elm_canon.specs.declared.unions.Tag.{Tag}
 use Rattle.elm_canon.specs.declared.unions.Tag.TheVariants as mark
-use Rattle.elm_canon.specs.declared.unions.Alternative.{Alternative}
 use Rattle.interface.specs.declared.step.Step.{Step}
 use Rattle.interface.specs.declared.step.Step.TheVariants as step
-use Rattle.interface.specs.Formats.{Format, Either, First, Other, pair, nothing, form, form_or, choice}
+use Rattle.interface.specs.Formats.{Either, First, Other, pair, nothing}
 use Rattle.interface.specs.Text.{tag_format, unit_format, short_format, half_format, count_format, name_format}
 use Rattle.interface.specs.Text.{names_format, flag_format, flag_of, flag_parts, class_format, ClassParts, class_of, class_parts}
 use Rattle.interface.specs.Text.{kind_format, kinds_format, place_format, rigid_format, leaf_format, leaf_of, leaf_parts}

@@ -2,23 +2,16 @@
 use Rattle.std.specs.Prelude.{◌≡◌, List, [], ◌∷◌, map, reverse, Option, Some, None}
 use Rattle.elm_canon.specs.Tree as plain
 use Rattle.elm_canon.specs.Tree.{annotations_of, field_types_of}
-use Rattle.elm_canon.specs.View.{annotation_view, field_type_view}
+use Rattle.elm_canon.specs.View.{annotation_view, field_type_view, function_type}
 use Rattle.elm_canon.specs.declared.tree.Annotation.{Annotation}
 use Rattle.interface.specs.declared.opened.Opened.{Opened}
 use Rattle.interface.specs.declared.opened.Opened.TheVariants as opened
-use Rattle.interface.specs.Steps.{joined}
-
--- a function of parameters in turn
-abbrev pub function_of : List plain.Annotation → plain.Annotation → plain.Annotation
-function_of [] t = t
-function_of (p ∷ ps) t = plain.FunctionType p (function_of ps t)
 
 -- what it is as it stands: the last item of each list is the first part
 abbrev pub opened_view : Opened → plain.Annotation
 opened_view (opened.Variable a) = plain.Variable a
 opened_view (opened.Named m x ts) = plain.NamedType m x (annotations_of (reverse (map annotation_view ts.items)))
-opened_view (opened.Function ts p t) =
-    plain.FunctionType (annotation_view p) (function_of (reverse (map annotation_view ts.items)) (annotation_view t))
+opened_view (opened.Function f) = function_type (reverse (map annotation_view f.types.items))
 opened_view (opened.Tuple ts) = plain.TupleType (annotations_of (reverse (map annotation_view ts.items)))
 opened_view (opened.Record None fs) = plain.RecordType (field_types_of (reverse (map field_type_view fs.items)))
 opened_view (opened.Record (Some a) fs) = plain.ExtendedType a (field_types_of (reverse (map field_type_view fs.items)))
@@ -27,7 +20,7 @@ opened_view (opened.Record (Some a) fs) = plain.ExtendedType a (field_types_of (
 abbrev pub stack_view : List Opened → List plain.Annotation
 stack_view items = reverse (map opened_view items)
 
--- the first two of the types, and the others
-abbrev pub FirstTwo : List plain.Annotation → Option (Annotation × Opened) → List plain.Annotation → Type 0
-FirstTwo old None new = (join : plain.Annotation → plain.Annotation → Option plain.Annotation) → joined join old ≡ None
-FirstTwo old (Some p) new = old ≡ annotation_view p.0 ∷ opened_view p.1 ∷ new
+-- the first of the types, and the others
+abbrev pub First : List plain.Annotation → Option Annotation → List plain.Annotation → Type 0
+First old None new = old ≡ []
+First old (Some t) new = old ≡ annotation_view t ∷ new

@@ -45,6 +45,11 @@ parameter_steps t = step.Function ∷ steps_of t
 abbrev pub field_steps : Name × Annotation → List Step
 field_steps f = step.Field f.0 ∷ steps_of f.1
 
+-- the step of a record, which may stand over a variable
+abbrev pub record_step : Option Name → Step
+record_step None = step.Record
+record_step (Some a) = step.Extended a
+
 -- ---- reading
 
 -- the second type with the first as one more part, before the others

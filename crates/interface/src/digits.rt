@@ -5,6 +5,7 @@ ghost use Rattle.interface.specs.Formats.{with_digit, digit_of, digits_at, zero_
 ghost use Rattle.interface.specs.Reading.{Gives};
 
 use crate::error::ReadError;
+use crate::input::Input;
 use itoa::Buffer;
 use std::alloc::AllocError;
 
@@ -87,7 +88,7 @@ fn zero_at(bytes: &[u8]) -> Result<(u64, &[u8]), ReadError>
 
 /// The number that the bytes begin with, which is no more than the most, and the rest of them.
 #[tactic(auto, unfolding(crate::specs::Formats::number_at))]
-pub(crate) fn number_at(bytes: &[u8], most: u64) -> Result<(u64, &[u8]), ReadError>
+fn number_at(bytes: &[u8], most: u64) -> Result<(u64, &[u8]), ReadError>
     ensures number { Gives (λ x. (x.0, x.1.now)) result (number_at most bytes.now) }
     ensures within { IfOk result (λ x. x.0 ≤ most) }
 {
@@ -102,5 +103,19 @@ pub(crate) fn number_at(bytes: &[u8], most: u64) -> Result<(u64, &[u8]), ReadErr
                 Some(value) => digits_at(rest, most, value),
             }
         }
+    }
+}
+
+/// Takes the number that the input begins with, which is no more than the most.
+pub(crate) fn take_number(input: &mut Input, most: u64) -> Result<u64, ReadError>
+    ensures number { Gives (λ x. (x, input.new.rest.now)) result (number_at most input.old.rest.now) }
+    ensures within { IfOk result (λ x. x ≤ most) }
+{
+    match number_at(input.rest, most) {
+        Ok((value, rest)) => {
+            input.rest = rest;
+            Ok(value)
+        }
+        Err(error) => Err(error),
     }
 }

@@ -3,17 +3,17 @@
 
 mod digits;
 mod error;
+mod forms;
+mod input;
 mod offer;
 mod offered;
 mod opened;
-mod reading;
 mod rebuilding;
 mod received;
 mod shapes;
 mod step;
 pub mod value;
 pub mod worked;
-mod writing;
 
 pub use offer::{same, to_text};
 pub use offered::Interface;

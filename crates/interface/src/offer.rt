@@ -7,10 +7,9 @@ ghost use Rattle.interface.specs.Interface.{value_view, union_view, alias_view, 
 ghost use Rattle.interface.specs.Text.{text_of, Fits, IsTextOf};
 ghost use Rattle.interface.specs.View.{interface_view};
 
+use crate::forms::lists::put_list;
 use crate::offered::Interface;
 use crate::value::Value;
-use crate::writing::declarations::{put_aliases, put_unions};
-use crate::writing::types::put_values;
 use elm_canon::tree::{AliasDeclaration, UnionDeclaration};
 use std::alloc::{AllocError, Global};
 use std::cmp::Ordering;
@@ -78,7 +77,7 @@ fn sorted_aliases(
 }
 
 /// The text of the parts of an interface.
-#[tactic(auto, unfolding(crate::specs::Text::interface_format, crate::specs::Text::text_of))]
+#[tactic(auto, unfolding(crate::specs::Text::interface_format, crate::specs::Text::values_format, crate::specs::Text::unions_format, crate::specs::Text::aliases_format, crate::specs::Text::text_of,))]
 fn text_of_parts(
     alloc: Global,
     values: &[Value],
@@ -88,9 +87,9 @@ fn text_of_parts(
     ensures { IfOk result (λ text. IsTextOf (parts_view values.now unions.now aliases.now) text.items) }
 {
     let mut text = Vec::new(alloc);
-    put_values(&mut text, values)?;
-    put_unions(alloc, &mut text, unions)?;
-    put_aliases(alloc, &mut text, aliases)?;
+    put_list(alloc, &mut text, values)?;
+    put_list(alloc, &mut text, unions)?;
+    put_list(alloc, &mut text, aliases)?;
     Ok(text)
 }
 

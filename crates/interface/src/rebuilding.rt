@@ -1,16 +1,17 @@
 //! Types of declarations, of their steps. A stack holds the types that were read; no call goes down a type.
 
-ghost use Rattle.std.specs.Prelude.{◌≡◌, ◌∷◌, map, reverse, option_map, IfOk, Some, None, if◌then◌else◌};
+ghost use Rattle.std.specs.Prelude.{◌≡◌, ◌≤◌, ◌∷◌, length, map, reverse, option_map};
+ghost use Rattle.std.specs.Prelude.{IfOk, Some, None, true, if◌then◌else◌};
 ghost use Rattle.elm_canon.specs.Tree as plain;
-ghost use Rattle.elm_canon.specs.View.{annotation_view, field_type_view};
+ghost use Rattle.elm_canon.specs.View.{annotation_view, field_type_view, function_type};
 ghost use Rattle.interface.specs.Steps.{stepped, built, joined, with_part, with_field};
-ghost use Rattle.interface.specs.Opened.{opened_view, stack_view, FirstTwo};
+ghost use Rattle.interface.specs.Opened.{opened_view, stack_view, First};
 ghost use Rattle.interface.specs.declared.step.Step.TheVariants as step;
 
-use crate::opened::Opened;
+use crate::opened::{OpenFunction, Opened};
 use crate::step::Step;
+use elm_base::names::Name;
 use elm_canon::tree::{Annotation, FieldType};
-use elm_names::name::Name;
 use std::alloc::{AllocError, Global};
 
 /// The same types from the last to the first.
@@ -31,33 +32,38 @@ fn reversed_fields(fields: Vec<FieldType>) -> Vec<FieldType>
     fields
 }
 
-/// The types with one more.
-fn with_more(types: Vec<Annotation>, part: Annotation) -> Result<Vec<Annotation>, AllocError>
-    ensures { IfOk result (λ more. reverse (map annotation_view more.items)
-        ≡ annotation_view part ∷ reverse (map annotation_view types.items)) }
+/// Adds one more type, and answers that it did.
+fn push_type(types: &mut Vec<Annotation>, part: Annotation) -> Result<bool, AllocError>
+    ensures { IfOk result (λ taken. (taken ≡ true) × (reverse (map annotation_view types.new.items)
+        ≡ annotation_view part ∷ reverse (map annotation_view types.old.items))) }
 {
-    let mut types = types;
     types.push(part)?;
-    Ok(types)
+    Ok(true)
+}
+
+/// Adds one more field, and answers that it did.
+fn push_field_type(
+    fields: &mut Vec<FieldType>,
+    name: Name,
+    field_type: Annotation,
+) -> Result<bool, AllocError>
+    ensures { IfOk result (λ taken. (taken ≡ true) × (reverse (map field_type_view fields.new.items)
+        ≡ (name, annotation_view field_type) ∷ reverse (map field_type_view fields.old.items))) }
+{
+    fields.push(FieldType { name, field_type })?;
+    Ok(true)
 }
 
 /// The type, to which nothing more is added.
-fn close(opened: Opened) -> Result<Annotation, AllocError>
-    ensures { IfOk result (λ annotation. annotation_view annotation ≡ opened_view opened) }
+fn close(opened: Opened) -> Annotation
+    ensures { annotation_view result ≡ opened_view opened }
 {
     match opened {
-        Opened::Variable(name) => Ok(Annotation::Variable(name)),
-        Opened::Named(module, name, types) => {
-            Ok(Annotation::Named(module, name, reversed(types)))
-        }
-        Opened::Function(parameters, first, last) => {
-            let all = with_more(parameters, first)?;
-            let mut types = reversed(all);
-            types.push(last)?;
-            Ok(Annotation::Function(types))
-        }
-        Opened::Tuple(types) => Ok(Annotation::Tuple(reversed(types))),
-        Opened::Record(base, fields) => Ok(Annotation::Record(base, reversed_fields(fields))),
+        Opened::Variable(name) => Annotation::Variable(name),
+        Opened::Named(module, name, types) => Annotation::Named(module, name, reversed(types)),
+        Opened::Function(function) => Annotation::Function(reversed(function.types)),
+        Opened::Tuple(types) => Annotation::Tuple(reversed(types)),
+        Opened::Record(base, fields) => Annotation::Record(base, reversed_fields(fields)),
     }
 }
 
@@ -70,31 +76,28 @@ fn put(stack: &mut Vec<Opened>, opened: Opened) -> Result<bool, AllocError>
     Ok(true)
 }
 
-/// The first two of the types that were read, if there are so many.
-fn first_two(stack: &mut Vec<Opened>) -> Result<Option<(Annotation, Opened)>, AllocError>
-    ensures { IfOk result (λ two. FirstTwo (stack_view stack.old.items) two (stack_view stack.new.items)) }
+/// Takes the first of the types that were read, if there is one.
+fn take_first(stack: &mut Vec<Opened>) -> Option<Annotation>
+    ensures { First (stack_view stack.old.items) result (stack_view stack.new.items) }
 {
     match stack.pop() {
-        None => Ok(None),
-        Some(first) => match stack.pop() {
-            None => Ok(None),
-            Some(second) => Ok(Some((close(first)?, second))),
-        },
+        None => None,
+        Some(opened) => Some(close(opened)),
     }
 }
 
-/// The fields with one more.
-fn with_more_fields(
-    fields: Vec<FieldType>,
-    name: Name,
-    field_type: Annotation,
-) -> Result<Vec<FieldType>, AllocError>
-    ensures { IfOk result (λ more. reverse (map field_type_view more.items)
-        ≡ (name, annotation_view field_type) ∷ reverse (map field_type_view fields.items)) }
+/// Adds one more to the parts.
+fn push_part(opened: &mut Opened, part: Annotation) -> Result<bool, AllocError>
+    ensures { IfOk result (λ taken. with_part (annotation_view part) (opened_view opened.old)
+        ≡ (if taken then Some (opened_view opened.new) else None)) }
 {
-    let mut fields = fields;
-    fields.push(FieldType { name, field_type })?;
-    Ok(fields)
+    match opened {
+        Opened::Named(_, _, types) => push_type(types, part),
+        Opened::Tuple(types) => push_type(types, part),
+        Opened::Variable(_) => Ok(false),
+        Opened::Function(_) => Ok(false),
+        Opened::Record(_, _) => Ok(false),
+    }
 }
 
 /// Adds the first type to the parts of the second.
@@ -102,22 +105,26 @@ fn add_part(stack: &mut Vec<Opened>) -> Result<bool, AllocError>
     ensures { IfOk result (λ taken. joined with_part (stack_view stack.old.items)
         ≡ (if taken then Some (stack_view stack.new.items) else None)) }
 {
-    let two = first_two(stack)?;
-    match two {
+    match take_first(stack) {
         None => Ok(false),
-        Some((part, opened)) => match opened {
-            Opened::Named(module, name, types) => {
-                let more = with_more(types, part)?;
-                put(stack, Opened::Named(module, name, more))
-            }
-            Opened::Tuple(types) => {
-                let more = with_more(types, part)?;
-                put(stack, Opened::Tuple(more))
-            }
-            Opened::Variable(_) => Ok(false),
-            Opened::Function(_, _, _) => Ok(false),
-            Opened::Record(_, _) => Ok(false),
+        Some(part) => match stack.last_mut() {
+            None => Ok(false),
+            Some(opened) => push_part(opened, part),
         },
+    }
+}
+
+/// Adds one more to the fields.
+fn push_field(opened: &mut Opened, name: Name, field_type: Annotation) -> Result<bool, AllocError>
+    ensures { IfOk result (λ taken. with_field name (annotation_view field_type) (opened_view opened.old)
+        ≡ (if taken then Some (opened_view opened.new) else None)) }
+{
+    match opened {
+        Opened::Record(_, fields) => push_field_type(fields, name, field_type),
+        Opened::Variable(_) => Ok(false),
+        Opened::Named(_, _, _) => Ok(false),
+        Opened::Function(_) => Ok(false),
+        Opened::Tuple(_) => Ok(false),
     }
 }
 
@@ -126,19 +133,27 @@ fn add_field(stack: &mut Vec<Opened>, name: Name) -> Result<bool, AllocError>
     ensures { IfOk result (λ taken. joined (with_field name) (stack_view stack.old.items)
         ≡ (if taken then Some (stack_view stack.new.items) else None)) }
 {
-    let two = first_two(stack)?;
-    match two {
+    match take_first(stack) {
         None => Ok(false),
-        Some((field_type, opened)) => match opened {
-            Opened::Record(base, fields) => {
-                let more = with_more_fields(fields, name, field_type)?;
-                put(stack, Opened::Record(base, more))
-            }
-            Opened::Variable(_) => Ok(false),
-            Opened::Named(_, _, _) => Ok(false),
-            Opened::Function(_, _, _) => Ok(false),
-            Opened::Tuple(_) => Ok(false),
+        Some(field_type) => match stack.last_mut() {
+            None => Ok(false),
+            Some(opened) => push_field(opened, name, field_type),
         },
+    }
+}
+/// The types of a function from the last to the first. A type that is no function is alone.
+fn types_of_function(alloc: Global, opened: Opened) -> Result<Vec<Annotation>, AllocError>
+    ensures some { IfOk result (λ types. 1 ≤ length types.items) }
+    ensures types { IfOk result (λ types. function_type (reverse (map annotation_view types.items))
+        ≡ opened_view opened) }
+{
+    match opened {
+        Opened::Function(function) => Ok(function.types),
+        other => {
+            let mut types = Vec::new(alloc);
+            types.push(close(other))?;
+            Ok(types)
+        }
     }
 }
 
@@ -147,16 +162,9 @@ fn function_to(alloc: Global, parameter: Annotation, opened: Opened) -> Result<O
     ensures { IfOk result (λ function. opened_view function
         ≡ plain.FunctionType (annotation_view parameter) (opened_view opened)) }
 {
-    match opened {
-        Opened::Function(parameters, first, last) => {
-            let more = with_more(parameters, first)?;
-            Ok(Opened::Function(more, parameter, last))
-        }
-        other => {
-            let last = close(other)?;
-            Ok(Opened::Function(Vec::new(alloc), parameter, last))
-        }
-    }
+    let mut types = types_of_function(alloc, opened)?;
+    push_type(&mut types, parameter)?;
+    Ok(Opened::Function(OpenFunction { types }))
 }
 
 /// Puts the function of the first type to the second in their place.
@@ -164,13 +172,12 @@ fn add_function(alloc: Global, stack: &mut Vec<Opened>) -> Result<bool, AllocErr
     ensures { IfOk result (λ taken. stepped step.Function (stack_view stack.old.items)
         ≡ (if taken then Some (stack_view stack.new.items) else None)) }
 {
-    let two = first_two(stack)?;
-    match two {
+    match take_first(stack) {
         None => Ok(false),
-        Some((parameter, opened)) => {
-            let function = function_to(alloc, parameter, opened)?;
-            put(stack, function)
-        }
+        Some(parameter) => match stack.pop() {
+            None => Ok(false),
+            Some(opened) => put(stack, function_to(alloc, parameter, opened)?),
+        },
     }
 }
 
@@ -212,7 +219,7 @@ fn closed(alloc: Global, stack: Vec<Opened>) -> Result<Vec<Annotation>, AllocErr
     let mut stack = stack;
     let mut types = Vec::new(alloc);
     while let Some(opened) = stack.pop() {
-        types.push(close(opened)?)?;
+        types.push(close(opened))?;
     }
     Ok(types)
 }

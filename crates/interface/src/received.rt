@@ -8,20 +8,21 @@ ghost use Rattle.interface.specs.Text.{interface_format, text_of, Fits, OneText}
 ghost use Rattle.interface.specs.View.{interface_view};
 
 use crate::error::ReadError;
+use crate::forms::lists::list_at;
+use crate::input::Input;
 use crate::offered::Interface;
-use crate::reading::declarations::{aliases_at, unions_at};
-use crate::reading::types::values_at;
 use std::alloc::{AllocError, Global};
 
 /// The interface that the bytes are the text of.
-#[tactic(auto, unfolding(crate::specs::Text::interface_format))]
+#[tactic(auto, unfolding(crate::specs::Text::interface_format, crate::specs::Text::values_format, crate::specs::Text::unions_format, crate::specs::Text::aliases_format,))]
 fn read(alloc: Global, bytes: &[u8]) -> Result<Interface, ReadError>
     ensures { Gives interface_view result (whole interface_format bytes.now) }
 {
-    let (values, rest) = values_at(alloc, bytes)?;
-    let (unions, rest) = unions_at(alloc, rest)?;
-    let (aliases, rest) = aliases_at(alloc, rest)?;
-    if !rest.is_empty() {
+    let mut input = Input { rest: bytes };
+    let values = list_at(alloc, &mut input)?;
+    let unions = list_at(alloc, &mut input)?;
+    let aliases = list_at(alloc, &mut input)?;
+    if !input.rest.is_empty() {
         return Err(ReadError::Refused);
     }
     let text = Vec::from_slice(alloc, bytes)?;

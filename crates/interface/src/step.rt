@@ -1,6 +1,6 @@
 //! The steps of a type of a declaration.
 
-use elm_names::name::Name;
+use elm_base::names::Name;
 
 /// A step, which stands before the types that it is made of.
 #[derive(Drop)]

@@ -1,6 +1,6 @@
 //! Values that a module offers.
 
-use elm_names::name::Name;
+use elm_base::names::Name;
 use elm_type::scheme::Scheme;
 
 /// A value that a module offers, or a port.

@@ -1,0 +1,4 @@
+pub mod Waiting
+pub mod Performed
+pub mod MadeArrows
+pub mod MadeParts

@@ -8,7 +8,7 @@ use Rattle.elm_canon.specs.Tree as source
 use Rattle.elm_canon.specs.Tree.{Patterns, Expr, Is, NameOf, Accessor, Lambda, Apply, Strict, Logical, Case, Located}
 use Rattle.elm_canon.specs.Tree.{Exprs, NoExpr, MoreExpr, Branches, NoBranch, MoreBranch, Groups, NoGroup, MoreGroup}
 use Rattle.elm_canon.specs.Tree.{Group, Together, Constant, Destructure, Functions, NoFunction, MoreFunction}
-use Rattle.elm_proper.specs.Proper.{count_of}
+use Rattle.elm_canon.specs.Proper.{count_of}
 use Rattle.js_tree.specs.Tree.{Name, Made, Js, JInt, JVar, JArrow, JCall, JBinary, JProperty, JsList, NoJs, MoreJs}
 use Rattle.js_tree.specs.Tree.{Stmts, Const, Return, If, While, StrictEquals}
 use Rattle.js_emit.specs.Names.{js_name, made_names, literal_js, now}

@@ -10,3 +10,8 @@ pub mod Emit
 pub mod Program
 pub mod Samples
 pub mod Examples
+pub mod Flags
+pub mod Parts
+pub mod Ends
+pub mod Open
+pub mod Primitives

@@ -7,7 +7,7 @@ use Rattle.elm_canon.specs.declared.reference.Ref.{Ref}
 use Rattle.elm_canon.specs.Tree.{Patterns, MorePattern, Expr, NameOf, Apply, Case, Located, Exprs}
 use Rattle.elm_canon.specs.Tree as source
 use Rattle.elm_canon.specs.Tree.{Branches, NoBranch, MoreBranch}
-use Rattle.elm_proper.specs.Proper.{count_exprs}
+use Rattle.elm_canon.specs.Proper.{count_exprs}
 use Rattle.js_tree.specs.Tree.{Name, JVar, Stmts, Const, Assign, Continue}
 use Rattle.js_tree.specs.Tree as js
 use Rattle.js_emit.specs.Patterns.{made_one, parameter, parameter_consts}

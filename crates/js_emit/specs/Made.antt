@@ -5,7 +5,7 @@ use Rattle.elm_canon.specs.Tree.{Patterns, NoPattern, MorePattern, Expr, Is, Nam
 use Rattle.elm_canon.specs.Tree.{Logical, Let, Case, Located, Exprs, NoExpr, MoreExpr, Branches, NoBranch, MoreBranch}
 use Rattle.elm_canon.specs.Tree.{Groups, NoGroup, MoreGroup, Group, Together, Constant, Destructure}
 use Rattle.elm_canon.specs.Tree.{Functions, NoFunction, MoreFunction}
-use Rattle.elm_proper.specs.Proper.{count_of}
+use Rattle.elm_canon.specs.Proper.{count_of}
 use Rattle.js_emit.specs.Names.{made_names}
 use Rattle.js_emit.specs.Patterns.{made_for}
 use Rattle.js_emit.specs.Loops.{Loop, Outside, Inside, goes_round, has_turn}

@@ -1,7 +1,7 @@
 -- Emit: the JavaScript of a program. (Elm guide: modules, JavaScript interop.) There is a line for each name, in order.
 -- Made names are numbered within one line.
 use Rattle.std.specs.Prelude.{List, [], ◌∷◌, if◌then◌else◌}
-use Rattle.meaning_base.specs.Texts.{units_lt}
+use Rattle.runs.specs.Texts.{units_lt}
 use Rattle.elm_canon.specs.Names as source
 use Rattle.elm_canon.specs.declared.reference.Ref.{Ref}
 use Rattle.elm_canon.specs.declared.reference.Ref.TheVariants.{Local, Top}

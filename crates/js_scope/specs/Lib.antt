@@ -6,3 +6,8 @@ pub mod Index
 pub mod Scopes
 pub mod Steps
 pub mod Parts
+pub mod NameView
+pub mod View
+pub mod Empty
+pub mod Words
+pub mod Read

@@ -11,7 +11,7 @@ use Rattle.std.proofs.lemmas.List.FromFn.{get_or-range_with_len, length-range_wi
 use Rattle.std.proofs.lemmas.List.Elements.{All-nil, All-cons}
 use Rattle.elm_canon.specs.Names.{Name, same_name}
 use Rattle.canon_env.proofs.Adding.{one_name}
-use Rattle.fragments.specs.Names.{TopName, same_top}
+use Rattle.link.specs.Names.{TopName, same_top}
 use Rattle.link.specs.Reached.{declares, place_of, places_used}
 use Rattle.link.specs.Link.{first_home}
 

@@ -12,12 +12,12 @@ use Rattle.elm_type.specs.Types.{Scheme}
 use Rattle.js_tree.specs.Text.{js_text}
 use Rattle.js_emit.specs.Codecs.{decoder, flags_decoder}
 use Rattle.emit_program.specs.Programs.{out_ports}
-use Rattle.emit_text.specs.Texts.{declared_text, core_text, in_texts}
-use Rattle.entry_type.specs.Entry.{EntryType, entry_type}
-use Rattle.entry_type.specs.Entry as entry
-use Rattle.fragments.specs.Names.{TopName}
-use Rattle.fragments.specs.Fragments.{Piece, Port, Main}
-use Rattle.fragments.specs.Made.{core_piece, declared_piece, fragment_of, pieces_of, main_of, says, port_of}
+use Rattle.emit_program.specs.Texts.{declared_text, core_text, in_texts}
+use Rattle.port_payload.specs.Entry.{EntryType, entry_type}
+use Rattle.port_payload.specs.Entry as entry
+use Rattle.link.specs.Names.{TopName}
+use Rattle.link.specs.Fragments.{Piece, Port, Main}
+use Rattle.link.specs.Made.{core_piece, declared_piece, fragment_of, pieces_of, main_of, says, port_of}
 use Rattle.link.specs.Reached.{reached, kept, is_reached}
 use Rattle.link.specs.Link.{Part, Placed, Output, Links, Unlinked, Linked, linked_or, linked_from, link}
 use Rattle.link.specs.Link.{reached_pieces, placed, placed_in, main_name}

@@ -3,9 +3,9 @@ use Rattle.std.specs.Prelude.{◌≡◌, ℕ, List, [], ◌∷◌, false, true, 
 use Rattle.elm_base.specs.declared.position.Pos.{Pos}
 use Rattle.elm_base.specs.declared.fault.Code.TheVariants.{MainType, MainFlags, PortClash}
 use Rattle.elm_canon.specs.declared.reference.Ref.TheVariants.{Top}
-use Rattle.elm_type_text.specs.Text.{utf8}
-use Rattle.fragments.specs.Names.{TopName}
-use Rattle.fragments.specs.Fragments.{Piece, Says, IsProgram, HasFlags, Main}
+use Rattle.elm_type.specs.Text.{utf8}
+use Rattle.link.specs.Names.{TopName}
+use Rattle.link.specs.Fragments.{Piece, Says, IsProgram, HasFlags, Main}
 use Rattle.link.specs.Link.{Part, Links, Unlinked, link, fault_at}
 
 abbrev pub at : ℕ → Pos

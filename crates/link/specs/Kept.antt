@@ -2,7 +2,7 @@
 use Rattle.std.specs.Prelude.{◌≡◌, ℕ, List}
 use Rattle.indexmap.specs.IndexMap.{get}
 use Rattle.elm_canon.specs.Names.{Name, same_name}
-use Rattle.fragments.specs.Names.{TopName, same_top}
+use Rattle.link.specs.Names.{TopName, same_top}
 use Rattle.link.specs.Reached.{place_of}
 use Rattle.link.specs.Link.{first_home}
 use Rattle.link.specs.declared.places.Places.{Places}

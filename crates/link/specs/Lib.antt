@@ -10,3 +10,15 @@ pub mod View
 pub mod Examples
 -- maps of names and ports
 pub mod Kept
+-- functions of core modules that no text can say
+pub mod Cores
+-- names of modules
+pub mod Names
+-- what a link needs to know of a module
+pub mod Fragments
+-- of what it is made
+pub mod Made
+-- as the program keeps it
+pub mod FragmentsView
+-- where ports are declared
+pub mod Found

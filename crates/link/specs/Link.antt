@@ -9,9 +9,9 @@ use Rattle.elm_base.specs.declared.fault.Fault.{Fault}
 use Rattle.elm_canon.specs.Names.{Name, same_name}
 use Rattle.elm_canon.specs.declared.reference.Ref.{Ref}
 use Rattle.elm_canon.specs.declared.reference.Ref.TheVariants.{Top}
-use Rattle.elm_type_text.specs.Text.{utf8}
-use Rattle.fragments.specs.Names.{TopName}
-use Rattle.fragments.specs.Fragments.{Port, Piece, Says, IsProgram, HasFlags, IsNoProgram, Main, Fragment}
+use Rattle.elm_type.specs.Text.{utf8}
+use Rattle.link.specs.Names.{TopName}
+use Rattle.link.specs.Fragments.{Port, Piece, Says, IsProgram, HasFlags, IsNoProgram, Main, Fragment}
 use Rattle.link.specs.Reached.{reached}
 
 -- a module: its name, its path, and its fragment

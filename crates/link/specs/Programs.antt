@@ -7,12 +7,12 @@ use Rattle.elm_canon.specs.Tree.{Declaration, PortDeclaration, Module}
 use Rattle.elm_meaning.specs.Functions.{Primitive}
 use Rattle.elm_meaning.specs.Run.{Flags, AnyFlags, Program}
 use Rattle.elm_type.specs.Types.{Scheme}
-use Rattle.emit_text.specs.Texts.{program_texts, IsMainOf}
-use Rattle.entry_type.specs.Entry.{EntryType, entry_type}
-use Rattle.entry_type.specs.Entry as entry
-use Rattle.fragments.specs.Names.{TopName, top_names}
-use Rattle.fragments.specs.Fragments.{Piece}
-use Rattle.fragments.specs.Made.{fragment_of, names_of, uses_of, core_piece, declared_piece}
+use Rattle.emit_program.specs.Texts.{program_texts, IsMainOf}
+use Rattle.port_payload.specs.Entry.{EntryType, entry_type}
+use Rattle.port_payload.specs.Entry as entry
+use Rattle.link.specs.Names.{TopName, top_names}
+use Rattle.link.specs.Fragments.{Piece}
+use Rattle.link.specs.Made.{fragment_of, names_of, uses_of, core_piece, declared_piece}
 use Rattle.link.specs.Reached.{reached}
 use Rattle.link.specs.Link.{Part, Output, main_name}
 

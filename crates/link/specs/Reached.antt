@@ -2,8 +2,8 @@
 use Rattle.std.specs.Prelude.{ℕ, zero, suc, List, [], ◌∷◌, Bool, false, map, if◌then◌else◌, Option, Some, None}
 use Rattle.std.specs.Prelude.{option_map}
 use Rattle.std.specs.List.{filter_map, list_any}
-use Rattle.binding_groups.specs.InOrder.{reaches}
-use Rattle.fragments.specs.Names.{TopName, same_top}
+use Rattle.decl_groups.specs.InOrder.{reaches}
+use Rattle.link.specs.Names.{TopName, same_top}
 
 abbrev pub declares : List TopName → TopName → Bool
 declares ns x = list_any (λ y. same_top y x) ns

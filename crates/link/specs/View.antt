@@ -1,8 +1,8 @@
 -- What parts of the program are.
 use Rattle.std.specs.Prelude.{List, string_bytes}
 use Rattle.elm_base.specs.declared.fault.Fault.{Fault}
-use Rattle.fragments.specs.Fragments.{Piece}
-use Rattle.fragments.specs.View.{fragment_view, piece_view}
+use Rattle.link.specs.Fragments.{Piece}
+use Rattle.link.specs.FragmentsView.{fragment_view, piece_view}
 use Rattle.link.specs.Link.{Part, Placed}
 use Rattle.link.specs.declared.part.Part as part
 use Rattle.link.specs.declared.pieces.Placed as pieces

@@ -2,21 +2,21 @@
 
 ghost use Rattle.std.specs.Prelude.{◌≡◌, ◌++◌, ◌∷◌, [], List, map, option_map, string_bytes, IfOk, OnOk};
 ghost use Rattle.elm_canon.specs.Names.{Name as PlainName};
-ghost use Rattle.elm_type_text.specs.Text.{utf8};
-ghost use Rattle.fragments.specs.View.{main_view, port_view};
+ghost use Rattle.elm_type.specs.Text.{utf8};
+ghost use Rattle.link.specs.FragmentsView.{main_view, port_view};
 ghost use Rattle.link.specs.Kept.{IsHomes};
 ghost use Rattle.link.specs.Link as spec;
 ghost use Rattle.link.specs.Link.{fault_at, main_faults, clash_at, with_port, clashes, link_faults, is_other};
 ghost use Rattle.link.specs.Link.{first_home};
 ghost use Rattle.link.specs.View.{part_view, placed_view};
 
+use crate::fragment::{Main, Port, Says};
 use crate::part::Part;
 use crate::pieces::Placed;
 use elm_base::fault::{Code, Fault};
+use elm_base::names::Name;
 use elm_base::position::{Pos, Region};
 use elm_base::text::Text;
-use elm_names::name::Name;
-use fragments::fragment::{Main, Port, Says};
 use indexmap::IndexMap;
 use std::alloc::{AllocError, Global};
 

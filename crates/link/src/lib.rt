@@ -2,12 +2,18 @@
 #![tactic(auto)]
 
 mod clashes;
+pub mod fragment;
+mod fragments_places;
 pub mod laws;
 mod linking;
+pub mod making;
+mod names;
 mod output;
 pub mod part;
 mod pieces;
 mod places;
 mod reaching;
+pub mod split;
+mod table;
 
 pub use linking::{LinkError, link};

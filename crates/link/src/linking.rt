@@ -5,17 +5,17 @@ ghost use Rattle.elm_meaning.specs.Run.{Program};
 ghost use Rattle.js_tree.specs.Text.{JsText};
 ghost use Rattle.js_emit.specs.Program.{Emit};
 ghost use Rattle.link.specs.Link.{Output, Links, Unlinked, link as plain_link, linked_by, flags_in};
-ghost use Rattle.fragments.specs.View.{main_view};
+ghost use Rattle.link.specs.FragmentsView.{main_view};
 ghost use Rattle.link.specs.Programs.{Tells};
 ghost use Rattle.link.specs.View.{part_view, placed_view, IfFaults};
 
 use crate::clashes::faults_of;
+use crate::fragment::{Main, Says};
 use crate::output::written;
 use crate::part::Part;
 use crate::pieces::Placed;
 use crate::reaching::reached;
 use elm_base::fault::Fault;
-use fragments::fragment::{Main, Says};
 use std::alloc::{AllocError, Global};
 
 /// Why modules are not linked.

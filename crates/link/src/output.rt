@@ -6,20 +6,20 @@ ghost use Rattle.elm_canon.specs.declared.reference.Ref.TheVariants as ref;
 ghost use Rattle.elm_meaning.specs.Run.{Program};
 ghost use Rattle.js_tree.specs.Text.{JsText};
 ghost use Rattle.js_emit.specs.Program.{Emit};
-ghost use Rattle.emit_text.specs.Texts.{in_view};
-ghost use Rattle.fragments.specs.View.{port_view};
+ghost use Rattle.emit_program.specs.Texts.{in_view};
+ghost use Rattle.link.specs.FragmentsView.{port_view};
 ghost use Rattle.link.specs.Link.{core_lines, other_lines, in_of, out_of, ins_of, outs_of, output_of};
 ghost use Rattle.link.specs.Programs.{Tells};
 ghost use Rattle.link.specs.View.{kept_piece};
 
+use crate::fragment::{Piece, Port};
 use crate::pieces::Placed;
 use crate::reaching::main_text;
+use elm_base::names::Name;
 use elm_canon::reference::Ref;
-use elm_names::name::Name;
-use emit_text::main_line::main_line;
-use emit_text::output::join;
-use emit_text::ports::InPort;
-use fragments::fragment::{Piece, Port};
+use emit_program::emit_text_ports::InPort;
+use emit_program::main_line::main_line;
+use emit_program::output::join;
 use std::alloc::{AllocError, Global};
 
 /// Adds the lines of a piece, if they are wanted.

@@ -1,7 +1,7 @@
 //! Modules that take part in a link.
 
-use elm_names::name::Name;
-use fragments::fragment::Fragment;
+use crate::fragment::Fragment;
+use elm_base::names::Name;
 
 /// A module that takes part in a link.
 #[derive(Drop)]

@@ -4,9 +4,9 @@ ghost use Rattle.std.specs.Prelude.{◌≡◌, ◌++◌, map, IfOk, OnOk};
 ghost use Rattle.link.specs.Link.{placed, placed_in};
 ghost use Rattle.link.specs.View.{part_view, placed_view};
 
+use crate::fragment::Piece;
 use crate::part::Part;
-use elm_names::name::Name;
-use fragments::fragment::Piece;
+use elm_base::names::Name;
 use std::alloc::{AllocError, Global};
 
 /// A piece, with the name and the path of its module.

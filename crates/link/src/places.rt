@@ -3,13 +3,13 @@
 ghost use Rattle.std.specs.Prelude.{◌≡◌, ◌<◌, ◌^◌, ◌++◌, ◌∷◌, [], List, length, map, IfOk, OnOk};
 ghost use Rattle.std.specs.List.{All, filter_map};
 ghost use Rattle.decl_groups.specs.Groups.{plain};
-ghost use Rattle.fragments.specs.Names.{TopName};
+ghost use Rattle.link.specs.Names.{TopName};
 ghost use Rattle.link.specs.Kept.{Numbered};
 ghost use Rattle.link.specs.Reached.{place_of, places_used};
 ghost use Rattle.link.specs.View.{placed_view};
 
 use crate::pieces::Placed;
-use elm_names::name::Name;
+use elm_base::names::Name;
 use indexmap::IndexMap;
 use std::alloc::{AllocError, Global};
 

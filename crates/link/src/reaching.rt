@@ -11,9 +11,9 @@ ghost use Rattle.link.specs.View.{part_view, placed_view};
 use crate::part::Part;
 use crate::pieces::{Placed, all_pieces};
 use crate::places::Places;
+use decl_groups::reachable;
+use elm_base::names::Name;
 use elm_base::units::Units;
-use elm_names::name::Name;
-use reachable::reachable;
 use std::alloc::{AllocError, Global};
 
 /// `main`

@@ -10,17 +10,17 @@ use Rattle.elm_type.specs.Types.{Leaf, Free, Fixed, Scheme, variables}
 use Rattle.canon_env.specs.Shown.{Shown}
 use Rattle.canon_env.specs.declared.finding.Finding.{Finding}
 use Rattle.canon_module.specs.Resolve.{module_shows}
-use Rattle.canon_sites.specs.Order.{IsInOrder}
-use Rattle.pattern_faults.specs.Faults as patterns
+use Rattle.canon_env.specs.Order.{IsInOrder}
+use Rattle.pattern_check.specs.Faults as patterns
 use Rattle.type_items.specs.Inferred.{Schemes, Inferred, Refused}
-use Rattle.infer_base.specs.Ready.{IsBelow}
-use Rattle.infer_modules.specs.Modules.{SchemesWritten}
+use Rattle.infer_steps.specs.Ready.{IsBelow}
+use Rattle.infer.specs.Modules.{SchemesWritten}
 use Rattle.module_offers.specs.Offers.{known_by, module_interface}
 use Rattle.module_made.specs.Around.{Around, home_of, setting_of}
 use Rattle.module_made.specs.Made.{Value, Bad, Made, mistyped, uncovered, fine, fault_in, type_finding, root, IsVariable}
-use Rattle.module_sound.specs.Sound.{SoundInterface}
-use Rattle.module_phases.specs.Phases.{Resolves}
-use Rattle.module_phases.proofs.Verdicts.{none_in_order}
+use Rattle.infer_proper.specs.Sound.{SoundInterface}
+use Rattle.module_compile.specs.Phases.{Resolves}
+use Rattle.module_compile.proofs.Verdicts.{none_in_order}
 use Rattle.module_compile.specs.Typing.{AllSound, value_of, AfterNames}
 
 no_constants : (n : ℕ) (xs : List (Leaf ℕ)) → AllByRecursion (IsBelow n) xs → AllByRecursion IsVariable xs

@@ -1,2 +1,12 @@
 -- what a module without faults in its names compiles to
 mod After
+-- imports beside what their modules show, one import after the other
+pub mod Listing
+-- what the names of a module are resolved against
+pub mod Resolving
+-- what a module is compiled in, with one interface more
+pub mod Surroundings
+-- which faults of a module stand, by phases
+pub mod Verdicts
+-- interfaces by their places
+pub mod Offering

@@ -4,15 +4,15 @@ use Rattle.elm_canon.specs.Tree.{Module}
 use Rattle.elm_tree.specs.Tree as tree
 use Rattle.canon_env.specs.Shown.{Shown}
 use Rattle.canon_module.specs.Resolve.{module_shows}
-use Rattle.core_functions.specs.Cores.{cores_of, without_cores}
-use Rattle.fragments.specs.Made.{fragment_of}
+use Rattle.link.specs.Cores.{cores_of, without_cores}
+use Rattle.link.specs.Made.{fragment_of}
 use Rattle.type_items.specs.Inferred.{Schemes, Inferred, Refused}
 use Rattle.infer.specs.Types.{schemes_of}
-use Rattle.infer_modules.specs.Modules.{SchemesWritten}
+use Rattle.infer.specs.Modules.{SchemesWritten}
 use Rattle.module_offers.specs.Offers.{known_by, main_type, module_interface}
 use Rattle.module_made.specs.Around.{Around, home_of, setting_of}
 use Rattle.module_made.specs.Made.{Value, Good, IsNamed, Made, root}
-use Rattle.module_sound.specs.Sound.{SoundInterface}
+use Rattle.infer_proper.specs.Sound.{SoundInterface}
 use Rattle.module_compile.specs.declared.typing.Typed.{Typed}
 use Rattle.module_compile.specs.declared.typing.Typed.TheVariants.{Types, Fault}
 

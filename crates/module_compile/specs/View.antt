@@ -1,7 +1,7 @@
 -- What a module of the program compiles to.
 use Rattle.std.specs.Prelude.{◌≡◌}
 use Rattle.elm_canon.specs.Names.{Name}
-use Rattle.fragments.specs.View.{fragment_view}
+use Rattle.link.specs.FragmentsView.{fragment_view}
 use Rattle.interface.specs.View.{interface_view}
 use Rattle.module_made.specs.Made.{Value, Good, Bad}
 use Rattle.module_compile.specs.declared.made.Made as program

@@ -1,8 +1,8 @@
 //! What a module compiles to.
 
+use crate::Offered;
 use elm_base::fault::Fault;
-use fragments::fragment::Fragment;
-use module_phases::Offered;
+use link::fragment::Fragment;
 use std::alloc::Global;
 use std::sync::Arc;
 

@@ -2,17 +2,17 @@
 
 ghost use Rattle.std.specs.Prelude.{IfOk};
 ghost use Rattle.elm_canon.specs.View.{module_view};
-ghost use Rattle.infer_modules.specs.Modules.{CanInfer};
-ghost use Rattle.module_phases.specs.View.{around_view};
+ghost use Rattle.infer.specs.Modules.{CanInfer};
+ghost use Rattle.module_compile.specs.ModulePhasesView.{around_view};
 ghost use Rattle.module_compile.specs.Typing.{TellsTypes};
 
+use crate::Imports;
+use crate::laws::sound_law;
 use crate::told::Inferred;
 use elm_canon::tree::Module;
+use infer::explain::Said;
 use infer::infer::{Stop, infer};
-use infer_faults::explain::Said;
-use module_phases::Imports;
-use module_phases::laws::sound_law;
-use module_ready::laws::ready_law;
+use infer_proper::module_ready_laws::ready_law;
 use std::alloc::{AllocError, Global};
 
 /// What inference says of a module.

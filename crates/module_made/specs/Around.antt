@@ -20,9 +20,9 @@ use Rattle.canon_env.specs.Imports.{Import, import_of, default_imports}
 use Rattle.canon_env.specs.declared.finding.Finding.{Finding}
 use Rattle.canon_module.specs.Resolve.{Setting}
 use Rattle.core_modules.specs.Given.{given_types, given_imports}
-use Rattle.module_walk.specs.Modules as walk
-use Rattle.module_walk.specs.declared.found.Found.{Found}
-use Rattle.module_walk.specs.declared.found.Found.TheVariants.{Nowhere, Core, File, Several}
+use Rattle.import_graph.specs.Modules as walk
+use Rattle.import_graph.specs.declared.found.Found.{Found}
+use Rattle.import_graph.specs.declared.found.Found.TheVariants.{Nowhere, Core, File, Several}
 use Rattle.module_offers.specs.Offers.{Interfaces, shown_of}
 
 pub record Around : Type 0 where

@@ -11,8 +11,8 @@ use Rattle.elm_tree.specs.Tree.{Word, Header, Import}
 use Rattle.elm_type.specs.Types.{Scheme, Free, variable, function, any_kind}
 use Rattle.canon_env.specs.Shown.{Shown}
 use Rattle.interface.specs.Interface.{Value, Interface}
-use Rattle.module_walk.specs.declared.found.Found.{Found}
-use Rattle.module_walk.specs.declared.found.Found.TheVariants.{Nowhere, Core, File, Several}
+use Rattle.import_graph.specs.declared.found.Found.{Found}
+use Rattle.import_graph.specs.declared.found.Found.TheVariants.{Nowhere, Core, File, Several}
 use Rattle.type_items.specs.Inferred.{Schemes}
 use Rattle.module_offers.specs.Offers.{Interfaces, shown_of, known_by, main_type, module_interface}
 use Rattle.module_made.specs.Around.{header_faults, head_faults, in_project}

@@ -19,17 +19,17 @@ use Rattle.elm_type.specs.Types.{Leaf, Free, Fixed, Scheme, variables}
 use Rattle.canon_env.specs.declared.finding.Finding.{Finding}
 use Rattle.canon_module.specs.Resolve as names
 use Rattle.canon_module.specs.Resolve.{IsModule, module_shows}
-use Rattle.canon_sites.specs.Order.{IsInOrder}
-use Rattle.canon_sites.specs.Sites.{utf8}
-use Rattle.fragments.specs.Fragments.{Fragment}
-use Rattle.fragments.specs.Made.{fragment_of}
+use Rattle.canon_env.specs.Order.{IsInOrder}
+use Rattle.canon_env.specs.Sites.{utf8}
+use Rattle.link.specs.Fragments.{Fragment}
+use Rattle.link.specs.Made.{fragment_of}
 use Rattle.interface.specs.Interface.{Interface}
-use Rattle.pattern_faults.specs.Faults as patterns
+use Rattle.pattern_check.specs.Faults as patterns
 use Rattle.type_items.specs.Items.{Place}
 use Rattle.type_items.specs.Inferred.{Schemes, Inferred, Refused}
-use Rattle.core_functions.specs.Cores.{cores_of, without_cores}
+use Rattle.link.specs.Cores.{cores_of, without_cores}
 use Rattle.module_offers.specs.Offers.{known_by, main_type, module_interface}
-use Rattle.operator_faults.specs.Faults.{operator_faults}
+use Rattle.module_offers.specs.Faults.{operator_faults}
 use Rattle.module_made.specs.Around.{Around, start, setting_of, head_faults}
 
 -- what a module compiles to: what it offers and its fragment, or its faults. One whose imports are not all good is

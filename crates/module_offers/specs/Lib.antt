@@ -2,3 +2,5 @@
 pub mod Offers
 -- as the program keeps it
 pub mod View
+-- what the text of a core module must have
+pub mod Faults

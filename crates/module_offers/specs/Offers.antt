@@ -14,13 +14,13 @@ use Rattle.elm_canon.specs.Tree.{Constant, Destructure, Declaration, Given, Defi
 use Rattle.elm_type.specs.Types.{Scheme}
 use Rattle.elm_type.specs.Schemes.{rename}
 use Rattle.canon_env.specs.Shown.{Shown}
-use Rattle.canon_calls.specs.Operators.{operator_meanings}
+use Rattle.canon_expr.specs.Operators.{operator_meanings}
 use Rattle.interface.specs.Interface.{Value, Interface, interface_of}
 use Rattle.type_items.specs.Annotations.{annotation_scheme}
 use Rattle.type_items.specs.Scopes.{Known}
 use Rattle.type_items.specs.Modules.{Annotated, union_makers, alias_makers}
 use Rattle.type_items.specs.Inferred.{Schemes}
-use Rattle.scheme_order.specs.Order.{scheme_in_order}
+use Rattle.elm_type.specs.Order.{scheme_in_order}
 
 -- ---- the functions of operators
 

@@ -5,7 +5,7 @@ ghost use Rattle.std.specs.List.{list_any};
 ghost use Rattle.elm_canon.specs.Names.{same_name};
 ghost use Rattle.module_offers.specs.Offers as spec;
 
-use elm_names::name::Name;
+use elm_base::names::Name;
 use elm_type::ascii::is_text;
 
 /// Those of `Basics`.

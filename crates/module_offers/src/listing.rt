@@ -11,15 +11,15 @@ ghost use Rattle.module_offers.specs.View.{values_view};
 
 use crate::naming::Naming;
 use crate::told::Told;
-use annotation_schemes::written::written_scheme;
+use elm_base::names::Name;
 use elm_canon::reference::Ref;
 use elm_canon::tree::{Declaration, Function, Group, Module, PortDeclaration};
-use elm_names::name::Name;
+use elm_type::order::scheme_in_order;
 use elm_type::rename;
 use elm_type::scheme::Scheme;
 use interface::value::Value;
-use scheme_order::order::scheme_in_order;
 use std::alloc::{AllocError, Global};
+use type_schemes::written::written_scheme;
 
 /// Adds a value.
 fn push_value(

@@ -6,7 +6,7 @@ ghost use Rattle.indexmap.specs.IndexSet.{contains};
 ghost use Rattle.elm_canon.specs.Names.{same_name, Name as PlainName};
 
 use crate::functions::is_operator_function;
-use elm_names::name::Name;
+use elm_base::names::Name;
 use elm_type::ascii::is_text;
 use indexmap::IndexSet;
 use std::alloc::{AllocError, Global};

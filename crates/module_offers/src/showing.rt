@@ -9,8 +9,8 @@ ghost use Rattle.module_offers.specs.View.{values_view};
 
 use crate::functions::is_operator_function;
 use canon_env::shown::Shown;
+use elm_base::names::Name;
 use elm_canon::tree::{AliasDeclaration, UnionDeclaration};
-use elm_names::name::Name;
 use interface::Interface;
 use interface::value::Value;
 use std::alloc::{AllocError, Global};

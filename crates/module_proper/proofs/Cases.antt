@@ -8,8 +8,8 @@ use Rattle.elm_canon.specs.Names.{Name, same_name}
 use Rattle.elm_canon.specs.declared.reference.Ref.TheVariants.{Top}
 use Rattle.canon_env.specs.Imports.{name_of}
 use Rattle.canon_env.proofs.Adding.{one_name}
-use Rattle.canon_names.specs.Names.{names_of, names_in, constructor_words, is_closed_record}
-use Rattle.elm_proper.specs.Proper.{among}
+use Rattle.canon_module.specs.Names.{names_of, names_in, constructor_words, is_closed_record}
+use Rattle.elm_canon.specs.Proper.{among}
 use Rattle.canon_proper.specs.Declared.{begins_upper, AreUpper, IsCased, AreCased}
 use Rattle.module_proper.specs.Modules.{tops, value_refs, maker_refs}
 use Rattle.module_proper.proofs.Numbers.{same_top}

@@ -9,26 +9,26 @@ use Rattle.std.proofs.lemmas.List.{length-map}
 use Rattle.std.proofs.lemmas.List.Elements.{All-contains}
 use Rattle.decl_groups.specs.Groups.{list_at, Uses, Reaches, here, through, IsReady, IsOrder, all_placed, next}
 use Rattle.decl_groups.proofs.Basics.{no_member}
-use Rattle.binding_groups.specs.InOrder.{is_in, reaches, uses_itself, places_of, AreWithin, ordered_groups}
-use Rattle.binding_groups.proofs.Reaching.{both, or_cases, is_use, sound}
-use Rattle.group_order.proofs.Ordering.{order_is}
-use Rattle.group_order.proofs.Itself.{itself_in}
+use Rattle.decl_groups.specs.InOrder.{is_in, reaches, uses_itself, places_of, AreWithin, ordered_groups}
+use Rattle.decl_groups.proofs.Reaching.{both, or_cases, is_use, sound}
+use Rattle.decl_groups.proofs.Ordering.{order_is}
+use Rattle.decl_groups.proofs.Itself.{itself_in}
 use Rattle.elm_canon.specs.Names.{Name}
 use Rattle.elm_canon.specs.declared.reference.Ref.{Ref}
 use Rattle.elm_canon.specs.declared.reference.Ref.TheVariants.{Local, Top}
 use Rattle.elm_canon.specs.Tree.{Declaration, Given, Define, Known, Group, groups_of}
-use Rattle.canon_blocks.specs.Blocks.{Made, NoMade, MadeFunction, MadeConstant, MadeParts, group_of}
-use Rattle.canon_blocks.specs.Blocks.{made_at}
-use Rattle.canon_uses.specs.Uses.{expr_uses}
-use Rattle.canon_values.specs.Items.{Item, PortItem, ValueItem, made_uses, item_uses, used_in, used_among, made_by}
-use Rattle.canon_values.specs.Items.{grouped, items_at, groups_of_items}
-use Rattle.top_uses.specs.TopUses.{used_numbers}
-use Rattle.top_uses.proofs.Numbering.{all_within}
-use Rattle.elm_proper.specs.Spelled.{is_spelled}
-use Rattle.elm_proper.specs.Proper.{Scope, among, IsIn, AreFresh, with_all, ProperGroups, after, group_names}
-use Rattle.elm_proper.specs.Proper.{all_bound_by}
-use Rattle.elm_proper.specs.Declarations.{is_proper_known, is_destructuring, ProperDeclarations, after_declarations}
-use Rattle.elm_proper.specs.Declarations.{declared_names}
+use Rattle.canon_expr.specs.Blocks.{Made, NoMade, MadeFunction, MadeConstant, MadeParts, group_of}
+use Rattle.canon_expr.specs.Blocks.{made_at}
+use Rattle.canon_env.specs.Uses.{expr_uses}
+use Rattle.canon_module.specs.Items.{Item, PortItem, ValueItem, made_uses, item_uses, used_in, used_among, made_by}
+use Rattle.canon_module.specs.Items.{grouped, items_at, groups_of_items}
+use Rattle.canon_module.specs.TopUses.{used_numbers}
+use Rattle.canon_module.proofs.Numbering.{all_within}
+use Rattle.elm_canon.specs.Spelled.{is_spelled}
+use Rattle.elm_canon.specs.Proper.{Scope, among, IsIn, AreFresh, with_all, ProperGroups, after, group_names}
+use Rattle.elm_canon.specs.Proper.{all_bound_by}
+use Rattle.elm_canon.specs.Declarations.{is_proper_known, is_destructuring, ProperDeclarations, after_declarations}
+use Rattle.elm_canon.specs.Declarations.{declared_names}
 use Rattle.canon_proper.specs.Narrower.{IsNarrower, KeepsAll}
 use Rattle.canon_proper.proofs.Scopes.{among-with_all, or_right}
 use Rattle.canon_proper.proofs.Apart.{Apart, fresh_less}

@@ -3,21 +3,21 @@ use Rattle.std.proofs.Common.{◌≡◌, ℕ, List, [], ◌∷◌, ◌++◌, map
 use Rattle.std.specs.List.{flat_map}
 use Rattle.std.proofs.lemmas.Bool.{false≢true}
 use Rattle.decl_groups.specs.Groups.{list_at}
-use Rattle.binding_groups.specs.InOrder.{ordered_groups}
+use Rattle.decl_groups.specs.InOrder.{ordered_groups}
 use Rattle.elm_tree.specs.Tree as tree
 use Rattle.elm_canon.specs.Names.{Name}
 use Rattle.elm_canon.specs.Tree.{Declaration, Given, Define}
 use Rattle.elm_canon.specs.declared.reference.Ref.{Ref}
 use Rattle.canon_env.specs.Env.{Known}
 use Rattle.canon_env.specs.Shown.{Shown}
-use Rattle.canon_sites.specs.Naming.{World}
-use Rattle.canon_blocks.specs.Blocks.{Made, NoMade, MadeFunction, MadeConstant, MadeParts, functions_in, group_of}
-use Rattle.canon_values.specs.Items.{Item, PortItem, ValueItem, items_of, items_at, grouped, made_by}
-use Rattle.canon_values.specs.Items.{top_used, value_groups}
-use Rattle.canon_values.specs.Faults.{value_faults}
+use Rattle.canon_env.specs.Naming.{World}
+use Rattle.canon_expr.specs.Blocks.{Made, NoMade, MadeFunction, MadeConstant, MadeParts, functions_in, group_of}
+use Rattle.canon_module.specs.Items.{Item, PortItem, ValueItem, items_of, items_at, grouped, made_by}
+use Rattle.canon_module.specs.Items.{top_used, value_groups}
+use Rattle.canon_module.specs.CanonValuesFaults.{value_faults}
 use Rattle.canon_module.specs.Resolve.{makers_in}
-use Rattle.top_uses.specs.TopUses.{value_names_each}
-use Rattle.elm_proper.specs.Proper.{Scope, with_all, ProperFunctions}
+use Rattle.canon_module.specs.TopUses.{value_names_each}
+use Rattle.elm_canon.specs.Proper.{Scope, with_all, ProperFunctions}
 use Rattle.canon_proper.specs.Declared.{AreSpelledDeclarations}
 use Rattle.canon_proper.proofs.Made.{ProperMade, two_together}
 use Rattle.canon_proper.proofs.Steps.{flat}

@@ -16,17 +16,17 @@ use Rattle.elm_canon.specs.declared.reference.Ref.TheVariants.{Top}
 use Rattle.elm_canon.specs.declared.unions.Alternative.{Alternative}
 use Rattle.canon_env.specs.Imports.{name_of}
 use Rattle.canon_env.specs.Exposing.{is_among}
-use Rattle.canon_sites.specs.Naming.{World}
-use Rattle.canon_sites.specs.Sites.{FieldsTogether, repeats_from}
-use Rattle.canon_sites.specs.Types.{type_sites, field_type_sites, field_words}
-use Rattle.canon_types.specs.Written.{aliases_in}
-use Rattle.canon_declared.specs.Unions.{alternative_of, alternatives_of, unions_in, union_of}
-use Rattle.canon_names.specs.Names.{names_of, names_in, constructor_words}
-use Rattle.declared_types.specs.Types.{alias_sites}
-use Rattle.elm_proper.specs.Spelled.{is_word, is_spelled, is_module, are_fields}
-use Rattle.elm_proper.specs.Constructors.{are_apart, is_exact_alternative, has_tag, same_kind}
-use Rattle.elm_proper.specs.Proper.{Scope, among, with_all, AreFresh}
-use Rattle.elm_proper.specs.Declarations.{declared_names, is_proper_known, ProperDeclarations, after_declarations}
+use Rattle.canon_env.specs.Naming.{World}
+use Rattle.canon_env.specs.Sites.{FieldsTogether, repeats_from}
+use Rattle.canon_env.specs.Types.{type_sites, field_type_sites, field_words}
+use Rattle.canon_type.specs.Written.{aliases_in}
+use Rattle.canon_type.specs.Unions.{alternative_of, alternatives_of, unions_in, union_of}
+use Rattle.canon_module.specs.Names.{names_of, names_in, constructor_words}
+use Rattle.canon_type.specs.DeclaredTypes.{alias_sites}
+use Rattle.elm_canon.specs.Spelled.{is_word, is_spelled, is_module, are_fields}
+use Rattle.elm_canon.specs.Constructors.{are_apart, is_exact_alternative, has_tag, same_kind}
+use Rattle.elm_canon.specs.Proper.{Scope, among, with_all, AreFresh}
+use Rattle.elm_canon.specs.Declarations.{declared_names, is_proper_known, ProperDeclarations, after_declarations}
 use Rattle.canon_proper.specs.Patterns.{IsSpelledWord, AreSpelledWords}
 use Rattle.canon_proper.specs.Rows.{AreConstructors, AreUnions}
 use Rattle.canon_proper.specs.Declared.{AreSpelledFieldTypes, AreSpelledConstructors, IsSpelledType}

@@ -10,8 +10,8 @@ use Rattle.elm_canon.specs.Names.{Name, same_name, same_ref}
 use Rattle.elm_canon.specs.declared.reference.Ref.{Ref}
 use Rattle.elm_canon.specs.declared.reference.Ref.TheVariants.{Local, Top}
 use Rattle.canon_env.proofs.Adding.{one_name, same_name-sym}
-use Rattle.top_uses.specs.TopUses.{is_named, number_of, own_name, used_number, used_numbers}
-use Rattle.elm_proper.specs.Proper.{among, IsIn}
+use Rattle.canon_module.specs.TopUses.{is_named, number_of, own_name, used_number, used_numbers}
+use Rattle.elm_canon.specs.Proper.{among, IsIn}
 use Rattle.canon_proper.proofs.Scopes.{name_itself, one_ref, among-append}
 use Rattle.canon_proper.proofs.Apart.{in_either}
 use Rattle.canon_proper.proofs.Steps.{flat}

@@ -5,11 +5,11 @@ use Rattle.elm_tree.specs.Tree as tree
 use Rattle.elm_canon.specs.Tree as canon
 use Rattle.elm_canon.specs.declared.reference.Ref.{Ref}
 use Rattle.canon_env.specs.Exposing.{import_faults}
-use Rattle.canon_values.specs.Faults.{value_faults}
-use Rattle.declared_types.specs.Types.{declared_faults}
+use Rattle.canon_module.specs.CanonValuesFaults.{value_faults}
+use Rattle.canon_type.specs.DeclaredTypes.{declared_faults}
 use Rattle.canon_module.specs.Resolve.{Setting, IsModule, module_faults, heading_faults, declared_by, world_of}
-use Rattle.elm_proper.specs.Proper.{Scope, among, with_all}
-use Rattle.elm_proper.specs.Declarations.{ProperDeclarations, after_declarations}
+use Rattle.elm_canon.specs.Proper.{Scope, among, with_all}
+use Rattle.elm_canon.specs.Declarations.{ProperDeclarations, after_declarations}
 use Rattle.canon_proper.proofs.Quiet.{append_none}
 use Rattle.module_proper.specs.Modules.{IsAround, AreRead, value_refs, maker_refs}
 use Rattle.module_proper.specs.Inside.{AllInside}

@@ -16,7 +16,7 @@ use Rattle.canon_env.specs.Env.{Known, when, value_named, record_maker, maker, d
 use Rattle.canon_env.specs.Env.{import_rows, imported_rows}
 use Rattle.canon_env.specs.Env as env
 use Rattle.canon_env.specs.declared.found.Named.{Named}
-use Rattle.elm_proper.specs.Proper.{Scope, IsIn}
+use Rattle.elm_canon.specs.Proper.{Scope, IsIn}
 use Rattle.canon_proper.specs.Rows.{AreInScope, HaveUnions}
 use Rattle.canon_proper.proofs.Scopes.{in_first, in_later}
 use Rattle.canon_proper.proofs.Apart.{in_left, in_right}

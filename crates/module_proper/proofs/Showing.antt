@@ -17,15 +17,15 @@ use Rattle.elm_canon.specs.declared.unions.Alternative.{Alternative}
 use Rattle.canon_env.specs.Imports.{name_of, exposes_value, exposes_type, exposes_makers}
 use Rattle.canon_env.specs.Shown.{Shown}
 use Rattle.canon_env.specs.Env.{when, declared_alternatives, imported_rows}
-use Rattle.canon_sites.specs.Naming.{World}
-use Rattle.canon_types.specs.Written.{aliases_in}
-use Rattle.canon_declared.specs.Unions.{alternative_of, alternatives_of, unions_in, union_of}
-use Rattle.canon_aliases.specs.Types.{is_record, alias_of}
-use Rattle.canon_names.specs.Names.{names_of, names_in, constructor_words, is_closed_record}
-use Rattle.declared_types.specs.Types.{uses_in, module_world}
+use Rattle.canon_env.specs.Naming.{World}
+use Rattle.canon_type.specs.Written.{aliases_in}
+use Rattle.canon_type.specs.Unions.{alternative_of, alternatives_of, unions_in, union_of}
+use Rattle.canon_type.specs.Types.{is_record, alias_of}
+use Rattle.canon_module.specs.Names.{names_of, names_in, constructor_words, is_closed_record}
+use Rattle.canon_type.specs.DeclaredTypes.{uses_in, module_world}
 use Rattle.canon_module.specs.Offers.{without_makers, opaque, offered_by, unions_by, aliases_by, exposed_by}
 use Rattle.canon_module.specs.Resolve.{Setting, IsModule, declared_by, module_shows}
-use Rattle.elm_proper.specs.Proper.{Scope}
+use Rattle.elm_canon.specs.Proper.{Scope}
 use Rattle.canon_proper.specs.Rows.{AreConstructors, AreUnions}
 use Rattle.canon_proper.proofs.Scopes.{in_later}
 use Rattle.canon_proper.proofs.Apart.{in_either}

@@ -6,7 +6,7 @@ use Rattle.std.specs.List.{Contains, list_all, enumerate_from}
 use Rattle.std.proofs.lemmas.Bool.Decides.{nat_tests}
 use Rattle.std.proofs.Common.{eq-eqb}
 use Rattle.decl_groups.proofs.Basics.{no_member, first_member, later_member, member_cases}
-use Rattle.binding_groups.proofs.Reaching.{and_both, or_first, or_second}
+use Rattle.decl_groups.proofs.Reaching.{and_both, or_first, or_second}
 use Rattle.elm_tree.specs.Tree.{Declaration, Value, Port, Union, Alias, ConstructorOf}
 use Rattle.elm_canon.specs.Names.{Name}
 use Rattle.elm_canon.specs.Unions as union
@@ -15,10 +15,10 @@ use Rattle.elm_canon.specs.declared.unions.Tag.{Tag}
 use Rattle.elm_canon.specs.declared.unions.Tag.TheVariants.{Number, Truth}
 use Rattle.elm_canon.specs.declared.unions.Alternative.{Alternative}
 use Rattle.canon_env.specs.Imports.{name_of}
-use Rattle.canon_sites.specs.Naming.{World}
-use Rattle.canon_declared.specs.Unions.{is_type, type_count, unions_in, union_of}
-use Rattle.elm_proper.specs.Constructors.{same_tag, same_kind, same_truth, is_exact_tag, is_exact_alternative, has_tag}
-use Rattle.elm_proper.specs.Constructors.{are_apart, is_one_of, is_constructor}
+use Rattle.canon_env.specs.Naming.{World}
+use Rattle.canon_type.specs.Unions.{is_type, type_count, unions_in, union_of}
+use Rattle.elm_canon.specs.Constructors.{same_tag, same_kind, same_truth, is_exact_tag, is_exact_alternative, has_tag}
+use Rattle.elm_canon.specs.Constructors.{are_apart, is_one_of, is_constructor}
 use Rattle.canon_proper.specs.Rows.{AreConstructors, AreUnions}
 use Rattle.module_proper.specs.Counted.{HaveFewer, AllHaveFew}
 

@@ -6,7 +6,7 @@ use Rattle.std.specs.List.{flat_map, enumerate_from}
 use Rattle.std.proofs.lemmas.Bool.{false≢true}
 use Rattle.std.proofs.lemmas.List.{map-append}
 use Rattle.decl_groups.specs.Groups.{list_at}
-use Rattle.binding_groups.specs.InOrder.{uses_itself}
+use Rattle.decl_groups.specs.InOrder.{uses_itself}
 use Rattle.elm_tree.specs.Tree.{Word, TypeTree, Patterns, Expr, Annotate, Define, Destructure, Declaration}
 use Rattle.elm_tree.specs.Tree.{Value, Port, Union, Alias}
 use Rattle.elm_canon.specs.Names.{Name}
@@ -15,24 +15,24 @@ use Rattle.elm_canon.specs.Tree.{Annotation, Title}
 use Rattle.elm_canon.specs.declared.reference.Ref.{Ref}
 use Rattle.elm_canon.specs.declared.reference.Ref.TheVariants.{Local, Top}
 use Rattle.canon_env.specs.Imports.{name_of}
-use Rattle.canon_sites.specs.Naming.{World}
-use Rattle.canon_sites.specs.Locals.{no_locals, with_names}
-use Rattle.canon_sites.specs.Sites.{Reaching, Defined, faults_at}
-use Rattle.canon_sites.specs.Patterns.{words_of_all, patterns_of}
-use Rattle.canon_sites.specs.Types.{type_of}
+use Rattle.canon_env.specs.Naming.{World}
+use Rattle.canon_env.specs.Locals.{no_locals, with_names}
+use Rattle.canon_env.specs.Sites.{Reaching, Defined, faults_at}
+use Rattle.canon_env.specs.Patterns.{words_of_all, patterns_of}
+use Rattle.canon_env.specs.Types.{type_of}
 use Rattle.canon_type.specs.Ports.{PortForm, Outgoing, Incoming, NoPort, Untold, port_form}
-use Rattle.canon_values.specs.Ports.{known_by, port_known}
-use Rattle.canon_blocks.specs.Binding.{is_function}
-use Rattle.canon_blocks.specs.Blocks.{NoMade, made_of, title_of, reaching_sites}
-use Rattle.canon_leaves.specs.Exprs.{meant}
-use Rattle.canon_names.specs.Names.{names_of, names_in}
-use Rattle.canon_values.specs.Items.{ValueItem, top_made, item_of, items_of, annotation_by, made_by}
-use Rattle.canon_values.specs.Items.{top_used, value_groups}
-use Rattle.canon_values.specs.Faults.{declaration_faults, defined_top, value_faults}
-use Rattle.top_uses.specs.TopUses.{value_names, value_names_each}
-use Rattle.elm_proper.specs.Spelled.{is_word, is_spelled, is_module}
-use Rattle.elm_proper.specs.Proper.{Scope, among, with_all, AreFresh}
-use Rattle.elm_proper.specs.Declarations.{is_proper_known, ProperDeclarations, after_declarations}
+use Rattle.canon_module.specs.Ports.{known_by, port_known}
+use Rattle.canon_expr.specs.Binding.{is_function}
+use Rattle.canon_expr.specs.Blocks.{NoMade, made_of, title_of, reaching_sites}
+use Rattle.canon_expr.specs.Exprs.{meant}
+use Rattle.canon_module.specs.Names.{names_of, names_in}
+use Rattle.canon_module.specs.Items.{ValueItem, top_made, item_of, items_of, annotation_by, made_by}
+use Rattle.canon_module.specs.Items.{top_used, value_groups}
+use Rattle.canon_module.specs.CanonValuesFaults.{declaration_faults, defined_top, value_faults}
+use Rattle.canon_module.specs.TopUses.{value_names, value_names_each}
+use Rattle.elm_canon.specs.Spelled.{is_word, is_spelled, is_module}
+use Rattle.elm_canon.specs.Proper.{Scope, among, with_all, AreFresh}
+use Rattle.elm_canon.specs.Declarations.{is_proper_known, ProperDeclarations, after_declarations}
 use Rattle.canon_proper.specs.Patterns.{IsSpelledWord}
 use Rattle.canon_proper.specs.Declared.{IsSpelledDeclaration, AreSpelledDeclarations}
 use Rattle.canon_proper.specs.Worlds.{HasMakers, HasNames, IsScopeOf}

@@ -3,8 +3,8 @@ use Rattle.std.proofs.Common.{◌≡◌, List, [], ◌++◌, map, Bool, true, fa
 use Rattle.std.specs.Prelude.{◌||◌}
 use Rattle.std.specs.List.{flat_map}
 use Rattle.std.proofs.lemmas.Bool.{false≢true}
-use Rattle.binding_groups.proofs.Reaching.{or_cases}
-use Rattle.group_order.proofs.Ordering.{not_true}
+use Rattle.decl_groups.proofs.Reaching.{or_cases}
+use Rattle.decl_groups.proofs.Ordering.{not_true}
 use Rattle.elm_tree.specs.Tree.{Declaration}
 use Rattle.elm_canon.specs.Names.{Name}
 use Rattle.elm_canon.specs.Tree as canon
@@ -13,19 +13,19 @@ use Rattle.elm_canon.specs.declared.reference.Ref.TheVariants.{Local, Top}
 use Rattle.canon_env.specs.Env.{Known, imported_rows}
 use Rattle.canon_env.specs.Imports.{name_of, Everything}
 use Rattle.canon_env.specs.Shown.{Shown}
-use Rattle.canon_sites.specs.Naming.{World}
-use Rattle.canon_sites.specs.Sites.{faults_at, repeats}
-use Rattle.canon_types.specs.Written.{aliases_in, union_names_in}
-use Rattle.canon_types.specs.Parameters.{parameter_faults}
-use Rattle.canon_types.specs.Recursion.{recursion_faults}
-use Rattle.canon_declared.specs.Unions.{unions_in, union_of, union_sites}
-use Rattle.canon_names.specs.Names.{Names, names_in}
-use Rattle.canon_names.specs.Faults.{duplicate_faults}
-use Rattle.declared_types.specs.Types.{alias_sites, declared_sites, declared_faults, uses_in, module_world, AreDeclared}
-use Rattle.canon_values.specs.Items.{value_groups}
-use Rattle.canon_values.specs.Faults.{value_faults}
-use Rattle.elm_proper.specs.Proper.{Scope, among, with_all, AreFresh}
-use Rattle.elm_proper.specs.Declarations.{ProperDeclarations, after_declarations}
+use Rattle.canon_env.specs.Naming.{World}
+use Rattle.canon_env.specs.Sites.{faults_at, repeats}
+use Rattle.canon_type.specs.Written.{aliases_in, union_names_in}
+use Rattle.canon_type.specs.Parameters.{parameter_faults}
+use Rattle.canon_type.specs.Recursion.{recursion_faults}
+use Rattle.canon_type.specs.Unions.{unions_in, union_of, union_sites}
+use Rattle.canon_module.specs.Names.{Names, names_in}
+use Rattle.canon_module.specs.Faults.{duplicate_faults}
+use Rattle.canon_type.specs.DeclaredTypes.{alias_sites, declared_sites, declared_faults, uses_in, module_world, AreDeclared}
+use Rattle.canon_module.specs.Items.{value_groups}
+use Rattle.canon_module.specs.CanonValuesFaults.{value_faults}
+use Rattle.elm_canon.specs.Proper.{Scope, among, with_all, AreFresh}
+use Rattle.elm_canon.specs.Declarations.{ProperDeclarations, after_declarations}
 use Rattle.canon_proper.specs.Worlds.{operator_ref}
 use Rattle.canon_proper.specs.Rows.{HasRows, AreUnions}
 use Rattle.canon_proper.proofs.Scopes.{among-with_all, in_more}

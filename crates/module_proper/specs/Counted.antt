@@ -4,7 +4,7 @@ use Rattle.std.specs.Prelude.{◌≡◌, ℕ, ◌<◌, ◌≤◌, List, [], ◌�
 use Rattle.elm_canon.specs.Names.{Name}
 use Rattle.elm_tree.specs.Tree.{Declaration, Value, Port, Union, Alias, ConstructorOf}
 use Rattle.canon_env.specs.Imports.{name_of}
-use Rattle.canon_declared.specs.Unions.{is_type, type_count}
+use Rattle.canon_type.specs.Unions.{is_type, type_count}
 
 -- each has fewer fields than that
 abbrev pub HaveFewer : ℕ → List ConstructorOf → Type 0

@@ -2,9 +2,9 @@
 -- only that they can be spelled.
 use Rattle.std.specs.Prelude.{◌≡◌, List, [], ◌∷◌, true}
 use Rattle.elm_canon.specs.Tree.{Group, Together, Constant, Destructure, Declaration, Given, Define}
-use Rattle.elm_proper.specs.Spelled.{is_spelled}
-use Rattle.elm_proper.specs.Proper.{Scope, Proper, ProperFunctions}
-use Rattle.elm_proper.specs.Declarations.{is_proper_known}
+use Rattle.elm_canon.specs.Spelled.{is_spelled}
+use Rattle.elm_canon.specs.Proper.{Scope, Proper, ProperFunctions}
+use Rattle.elm_canon.specs.Declarations.{is_proper_known}
 
 abbrev pub IsInsideGroup : Scope → Group → Type 0
 IsInsideGroup scope (Together fs) = ProperFunctions scope fs

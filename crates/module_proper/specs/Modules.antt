@@ -10,10 +10,10 @@ use Rattle.canon_env.specs.Env.{Known, declared_alternatives, when}
 use Rattle.canon_env.specs.Exposing.{is_operator}
 use Rattle.canon_env.specs.Imports.{name_of}
 use Rattle.canon_env.specs.Shown.{Shown}
-use Rattle.canon_sites.specs.Naming.{World}
-use Rattle.canon_names.specs.Names.{names_in}
-use Rattle.elm_proper.specs.Spelled.{is_module}
-use Rattle.elm_proper.specs.Proper.{Scope, among, IsIn, with_all, AreFresh}
+use Rattle.canon_env.specs.Naming.{World}
+use Rattle.canon_module.specs.Names.{names_in}
+use Rattle.elm_canon.specs.Spelled.{is_module}
+use Rattle.elm_canon.specs.Proper.{Scope, among, IsIn, with_all, AreFresh}
 use Rattle.canon_proper.specs.Worlds.{HasMakers, operator_ref}
 use Rattle.canon_proper.specs.Rows.{HasRows, AreUnions}
 use Rattle.canon_proper.specs.Declared.{AreSpelledDeclarations, AreCased}

@@ -10,7 +10,7 @@ use Rattle.elm_canon.specs.declared.unions.Tag.TheVariants as tag
 use Rattle.elm_canon.specs.declared.unions.Alternative.{Alternative}
 use Rattle.elm_canon.specs.declared.tree.Literal.{Literal}
 use Rattle.elm_canon.specs.declared.tree.Literal.TheVariants as literal
-use Rattle.elm_proper.specs.Constructors.{same_int, same_truth, same_tag, is_one_of}
+use Rattle.elm_canon.specs.Constructors.{same_int, same_truth, same_tag, is_one_of}
 use Rattle.pattern_check.specs.Shapes.{Key, LiteralKey, ConstructorKey, key_of}
 use Rattle.pattern_check.specs.Shapes.{Head, Literally, OtherLiteral, Constructor, same_literal, same_head, arity_of}
 use Rattle.pattern_check.proofs.Members.{no_member, first_member, later_member, member_cases}

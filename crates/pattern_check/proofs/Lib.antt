@@ -14,3 +14,9 @@ pub mod Building
 pub mod Reporting
 pub mod Writing
 pub mod Skipping
+-- one expression, branch, group or function more
+pub mod Adding
+pub mod Linking
+pub mod Covered
+-- where patterns begin
+pub mod Placing

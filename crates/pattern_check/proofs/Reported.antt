@@ -10,8 +10,8 @@ use Rattle.elm_canon.specs.declared.unions.Alternative.{Alternative}
 use Rattle.std.specs.Prelude.{nat_lt}
 use Rattle.std.specs.List.{list_all}
 use Rattle.elm_canon.specs.Tree as plain
-use Rattle.elm_proper.specs.Constructors.{is_constructor, are_apart, same_kind, is_one_of}
-use Rattle.elm_proper.specs.Proper.{ProperPattern, ProperPatterns, count_of}
+use Rattle.elm_canon.specs.Constructors.{is_constructor, are_apart, same_kind, is_one_of}
+use Rattle.elm_canon.specs.Proper.{ProperPattern, ProperPatterns, count_of}
 use Rattle.pattern_check.specs.Shapes.{Shape, Open, Shapes, NoShape, MoreShape, shape_of, shapes_of, written}
 use Rattle.pattern_check.specs.Shapes.{width, IsProper, AreProper, Fits, AllFit, OfOneType, overlaps, all_overlap}
 use Rattle.pattern_check.specs.Shapes.{IsSpecial, AreSpecial, IsMissing, IsRedundant}

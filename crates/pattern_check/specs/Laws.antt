@@ -2,7 +2,7 @@
 use Rattle.std.specs.Prelude.{◌≡◌, List, ◌∷◌, ◌++◌, map, length, Some, None, ◌↔◌}
 use Rattle.std.specs.List.{Contains}
 use Rattle.elm_canon.specs.Tree as plain
-use Rattle.elm_proper.specs.Proper.{ProperPattern}
+use Rattle.elm_canon.specs.Proper.{ProperPattern}
 use Rattle.pattern_check.specs.Shapes.{Shape, shape_of, written, IsProper, OfOneType, IsMissing, Misses, IsRedundant}
 use Rattle.pattern_check.specs.Missing.{missing, redundant}
 

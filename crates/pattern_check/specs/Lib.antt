@@ -11,3 +11,7 @@ pub mod Listed
 pub mod Starts
 pub mod Flat
 pub mod Examples
+pub mod Sites
+pub mod Faults
+pub mod PatternFaultsLaws
+pub mod Links

@@ -11,7 +11,7 @@ use Rattle.elm_canon.specs.declared.unions.Alternative.{Alternative}
 use Rattle.elm_canon.specs.declared.unions.Tag.{Tag}
 use Rattle.elm_canon.specs.declared.tree.Literal.{Literal}
 use Rattle.elm_canon.specs.declared.tree.Literal.TheVariants as literal
-use Rattle.elm_proper.specs.Constructors.{same_int, same_tag, is_one_of}
+use Rattle.elm_canon.specs.Constructors.{same_int, same_tag, is_one_of}
 
 -- ---- what shapes there are
 

@@ -8,10 +8,10 @@ ghost use Rattle.pattern_check.specs.Shapes as shapes;
 ghost use Rattle.pattern_check.specs.Built.{tuple_head, empty_head, item_head, head_pattern, unlisted, stack_view};
 
 use crate::start::{Start, arity};
+use elm_base::names::Name;
 use elm_base::units::Units;
 use elm_canon::tree::{Literal, Pattern};
 use elm_canon::unions::{Alternative, Tag, Union, UnionShape};
-use elm_names::name::Name;
 use std::alloc::{AllocError, Global};
 
 /// The literal once more.

@@ -1,7 +1,7 @@
 //! What shapes begin with, as it stands in patterns.
 
 ghost use Rattle.std.specs.Prelude.{◌≡◌};
-ghost use Rattle.elm_proper.specs.Constructors as constructors;
+ghost use Rattle.elm_canon.specs.Constructors as constructors;
 ghost use Rattle.pattern_check.specs.Shapes as shapes;
 ghost use Rattle.pattern_check.specs.Starts.{start_view, key_view};
 

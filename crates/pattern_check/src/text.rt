@@ -9,10 +9,10 @@ ghost use Rattle.pattern_check.specs.Written as written;
 ghost use Rattle.pattern_check.specs.Written.{pending, rest};
 
 use crate::start::{Start, arity};
+use elm_base::names::Name;
 use elm_base::quoted::write_hex4;
 use elm_canon::tree::Literal;
 use elm_canon::unions::{Union, UnionShape};
-use elm_names::name::Name;
 use itoa::Buffer;
 use std::alloc::{AllocError, Global};
 

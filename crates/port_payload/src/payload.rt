@@ -7,8 +7,8 @@ ghost use Rattle.elm_canon.specs.View.{payload_field_view};
 ghost use Rattle.canon_type.specs.Ports.{is_type};
 ghost use Rattle.port_payload.specs.Payloads as spec;
 
+use elm_base::names::Name;
 use elm_canon::tree::{Annotation, FieldType, Payload, PayloadField};
-use elm_names::name::Name;
 use std::alloc::{AllocError, Global};
 
 /// `Basics`

@@ -10,7 +10,7 @@ use Rattle.elm_canon.specs.Names.{Name, same_ref}
 use Rattle.elm_canon.specs.declared.reference.Ref.{Ref}
 use Rattle.elm_canon.specs.declared.reference.Ref.TheVariants.{Local, Top}
 use Rattle.elm_canon.specs.Tree.{Declaration, Given, Define, Module}
-use Rattle.elm_proper.specs.Proper.{among}
+use Rattle.elm_canon.specs.Proper.{among}
 use Rattle.elm_meaning.specs.Functions.{Primitive, Core}
 use Rattle.elm_meaning.specs.Functions as functions
 use Rattle.elm_meaning.specs.Values.{KnownV, NoValue, Env, Nil, Bind}
@@ -33,7 +33,7 @@ use Rattle.typed_values.specs.Sample.{sample_frame}
 use Rattle.typed_values.proofs.Names.{not_both, not_or, same_refs}
 use Rattle.typed_values.proofs.Envs.{agree_refl}
 use Rattle.typed_values.proofs.SampleFrame.{sample_stands}
-use Rattle.exhaustive_matches.proofs.Sound.{steps_keep_types}
+use Rattle.type_safety.proofs.Sound.{steps_keep_types}
 use Rattle.type_safety.specs.Modules.{groups_in, given_in, scope_after}
 use Rattle.type_safety.proofs.Modules.{given_serves, declared_definitions}
 use Rattle.type_safety.proofs.Stagings.{AllNamed, listed_scope, last_alike, alike_back, agree_alike}

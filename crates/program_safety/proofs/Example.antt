@@ -13,8 +13,8 @@ use Rattle.elm_meaning.specs.Seen.{same_kind}
 use Rattle.elm_type.specs.Types.{Scheme, Free, variable, variables}
 use Rattle.elm_type.specs.Classes.{Ground, meets}
 use Rattle.elm_base.specs.declared.position.Pos.{Pos}
-use Rattle.ground_types.specs.Ground.{is_ground, fits, value}
-use Rattle.binding_groups.specs.InOrder.{ordered_groups}
+use Rattle.elm_type.specs.Ground.{is_ground, fits, value}
+use Rattle.decl_groups.specs.InOrder.{ordered_groups}
 use Rattle.type_items.specs.Scopes.{Entry, Instance, Known, Scope, entry_of}
 use Rattle.elm_canon.specs.Names.{same_ref}
 use Rattle.elm_canon.specs.Tree.{IntPayload, Payload, Anything, Named, NoPattern, MorePattern}

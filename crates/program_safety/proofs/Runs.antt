@@ -35,7 +35,7 @@ use Rattle.typed_values.proofs.Fields.{TypeOf, field_found}
 use Rattle.typed_values.proofs.Makers.{tuple_made}
 use Rattle.typed_values.proofs.Envs.{look_good}
 use Rattle.typed_values.proofs.Written.{IfRead, was_read}
-use Rattle.exhaustive_matches.proofs.Sound.{steps_keep_types}
+use Rattle.type_safety.proofs.Sound.{steps_keep_types}
 use Rattle.type_safety.proofs.Progress.{then_well, CallOk, call_good}
 use Rattle.program_safety.specs.Parts.{Part, none_but, primitive_names, bound_after}
 use Rattle.program_safety.specs.Programs.{step_type, worker_type, program_type, IsProgramMaker, IsWorker, flags_type, IsTypedProgram, IsInput}

@@ -6,12 +6,12 @@ use Rattle.elm_canon.specs.Names.{same_ref}
 use Rattle.elm_canon.specs.declared.reference.Ref.{Ref}
 use Rattle.elm_canon.specs.declared.reference.Ref.TheVariants.{Local, Top}
 use Rattle.elm_canon.specs.Tree.{Annotation, Module}
-use Rattle.elm_proper.specs.Proper.{among}
+use Rattle.elm_canon.specs.Proper.{among}
 use Rattle.elm_type.specs.Types.{Name, ElmType, ElmTypes, Fields, Closed, Over, Made, Record, NoType, MoreType, NoField, MoreField, end_variables, variables, variables_all, variables_fields, variable, Rigid, Leaf, Free, Fixed, Kind, Scheme, kind_at}
 use Rattle.elm_type.specs.Classes.{Ground, meets}
 use Rattle.elm_type.specs.Rows.{name_lt, insert_field, insert_all, extend, substitute, substitute_all, substitute_fields}
 use Rattle.elm_type.specs.Schemes.{rename, placed, in_order, noted, appearing}
-use Rattle.ground_types.specs.Ground.{leaf_value, value, fits, lacks_all}
+use Rattle.elm_type.specs.Ground.{leaf_value, value, fits, lacks_all}
 use Rattle.type_items.specs.Items.{Place, child, Wanted, Item}
 use Rattle.type_items.specs.Scopes.{Entry, Mono, Instance, Entries, Known, Scope, entry_of, one_type}
 use Rattle.type_items.specs.Annotations.{annotation_scheme}
@@ -33,7 +33,7 @@ use Rattle.typed_values.proofs.Rows.{extend_none, substitute_twice, after_rename
 use Rattle.typed_values.proofs.Unions.{agree}
 use Rattle.typed_values.proofs.SampleFrame.{below_itself, lacks_own}
 use Rattle.typed_values.proofs.SampleWorld.{sample_is_sound}
-use Rattle.exhaustive_matches.proofs.Sound.{steps_keep_types}
+use Rattle.type_safety.proofs.Sound.{steps_keep_types}
 use Rattle.type_safety.specs.Modules.{groups_in, scope_after}
 use Rattle.type_safety.proofs.Modules.{declared_definitions}
 use Rattle.type_safety.proofs.Stagings.{at_name, Named, AllNamed, EachNamed, last_scope, adds_as, adds, adds_some, group_at, scope_at, place_at, first_definer, definer_type, listed_scope, listed_items, last_none, last_adding, scope_alike, named_at, found_left}

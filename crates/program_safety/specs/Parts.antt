@@ -5,7 +5,7 @@ use Rattle.elm_canon.specs.Names.{Name, same_ref}
 use Rattle.elm_canon.specs.declared.reference.Ref.{Ref}
 use Rattle.elm_canon.specs.declared.reference.Ref.TheVariants.{Local, Top}
 use Rattle.elm_canon.specs.Tree.{Declaration, Module}
-use Rattle.elm_proper.specs.Proper.{among}
+use Rattle.elm_canon.specs.Proper.{among}
 use Rattle.elm_meaning.specs.Functions.{Primitive, Core}
 use Rattle.elm_type.specs.Types.{Scheme}
 use Rattle.elm_type.specs.Classes.{Ground}

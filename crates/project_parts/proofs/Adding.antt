@@ -13,15 +13,15 @@ use Rattle.indexmap.specs.IndexSet.{insert_key}
 use Rattle.core_modules.specs.Library as core
 use Rattle.core_modules.specs.Library.{core_library}
 use Rattle.core_modules.specs.declared.library.CoreModule.{CoreModule}
-use Rattle.module_files.specs.Places as place
-use Rattle.module_files.specs.Places.{text_within}
-use Rattle.module_heads.specs.Heads.{HasImports}
-use Rattle.module_walk.specs.Modules.{Word, Import, Source, Module, Imports, IsWhole, located, located_by, place_in}
-use Rattle.module_walk.specs.Modules.{kind_of}
-use Rattle.module_walk.specs.Modules.{is_core, imports_found}
-use Rattle.module_walk.specs.declared.found.Found.{Found}
-use Rattle.module_walk.specs.declared.found.Found.TheVariants.{Nowhere, Core}
-use Rattle.project_build.specs.Modules.{IsCoreModule, AreCoreModules, names_in, core_names, core_setting}
+use Rattle.import_graph.specs.Places as place
+use Rattle.import_graph.specs.Places.{text_within}
+use Rattle.import_graph.specs.Heads.{HasImports}
+use Rattle.import_graph.specs.Modules.{Word, Import, Source, Module, Imports, IsWhole, located, located_by, place_in}
+use Rattle.import_graph.specs.Modules.{kind_of}
+use Rattle.import_graph.specs.Modules.{is_core, imports_found}
+use Rattle.import_graph.specs.declared.found.Found.{Found}
+use Rattle.import_graph.specs.declared.found.Found.TheVariants.{Nowhere, Core}
+use Rattle.project_parts.specs.Modules.{IsCoreModule, AreCoreModules, names_in, core_names, core_setting}
 use Rattle.project_parts.specs.Library.{found_among, import_among, ImportsAmong, IsNext}
 use Rattle.project_parts.proofs.Differing.{new_apart, core_new}
 use Rattle.project_parts.proofs.Lower.{no_place}

@@ -19,10 +19,10 @@ use Rattle.std.proofs.lemmas.Bool.Decides.{nat_tests}
 use Rattle.std.proofs.lemmas.Str.{IsUtf8-from_ascii}
 use Rattle.core_modules.specs.Library.{core_library}
 use Rattle.import_graph.specs.Order.{IsOrder}
-use Rattle.module_graph.specs.Graph.{names_of}
-use Rattle.module_walk.specs.Modules.{Module, Source}
-use Rattle.module_walk.specs.Plain.{IsPlain}
-use Rattle.project_build.specs.Modules.{Part, core_names, core_part, project_part, parts_of, name_of}
+use Rattle.import_graph.specs.Graph.{names_of}
+use Rattle.import_graph.specs.Modules.{Module, Source}
+use Rattle.import_graph.specs.Plain.{IsPlain}
+use Rattle.project_parts.specs.Modules.{Part, core_names, core_part, project_part, parts_of, name_of}
 use Rattle.project_parts.specs.Laws.{AreToBuild, HomesApart, Fits, Fit, IsBuild}
 use Rattle.project_parts.proofs.Lower.{names, order_within, ordered}
 use Rattle.project_parts.proofs.Naming.{core_at}

@@ -10,17 +10,17 @@ use Rattle.std.proofs.lemmas.Option.{slice_get_within}
 use Rattle.core_modules.specs.Library.{core_library}
 use Rattle.decl_groups.specs.Groups.{list_at, Uses}
 use Rattle.decl_groups.proofs.Basics.{first_member, later_member, map_member}
-use Rattle.module_files.specs.Places as place
-use Rattle.module_files.specs.Places.{Place}
-use Rattle.module_graph.specs.Graph.{names_of, used, uses_of}
-use Rattle.module_walk.specs.Modules.{Setting, Word, Import, Module, located, located_by, place_in, kind_of, is_core}
-use Rattle.module_walk.specs.Modules.{imports_found}
-use Rattle.module_walk.specs.Plain.{IsPlain, IsPlainImport}
-use Rattle.module_walk.specs.declared.found.Found.{Found}
-use Rattle.module_walk.specs.declared.found.Found.TheVariants as found
-use Rattle.project_build.specs.Modules.{Part, names_in, core_names, core_setting}
-use Rattle.project_build.specs.Modules.{core_part, project_part, parts_of, default_names, one_name, imported_names}
-use Rattle.project_build.specs.Modules.{number_of, name_of, graph_of}
+use Rattle.import_graph.specs.Places as place
+use Rattle.import_graph.specs.Places.{Place}
+use Rattle.import_graph.specs.Graph.{names_of, used, uses_of}
+use Rattle.import_graph.specs.Modules.{Setting, Word, Import, Module, located, located_by, place_in, kind_of, is_core}
+use Rattle.import_graph.specs.Modules.{imports_found}
+use Rattle.import_graph.specs.Plain.{IsPlain, IsPlainImport}
+use Rattle.import_graph.specs.declared.found.Found.{Found}
+use Rattle.import_graph.specs.declared.found.Found.TheVariants as found
+use Rattle.project_parts.specs.Modules.{Part, names_in, core_names, core_setting}
+use Rattle.project_parts.specs.Modules.{core_part, project_part, parts_of, default_names, one_name, imported_names}
+use Rattle.project_parts.specs.Modules.{number_of, name_of, graph_of}
 use Rattle.project_parts.specs.Laws.{AreToBuild}
 use Rattle.project_parts.proofs.Naming.{core_names_are, core_at, part_names}
 use Rattle.project_parts.proofs.Ordering.{ready_at}

@@ -5,10 +5,10 @@ use Rattle.std.proofs.Common.{append-nil}
 use Rattle.std.specs.Prelude.{slice_get}
 use Rattle.std.specs.List.{filter_map}
 use Rattle.std.proofs.lemmas.List.{map-append}
-use Rattle.module_graph.specs.Graph.{names_of}
-use Rattle.module_walk.specs.Modules.{Module}
-use Rattle.project_build.specs.Modules.{Part, IsCoreModule, AreCoreModules, names_in, core_part, project_part, parts_of}
-use Rattle.project_build.specs.Modules.{name_of}
+use Rattle.import_graph.specs.Graph.{names_of}
+use Rattle.import_graph.specs.Modules.{Module}
+use Rattle.project_parts.specs.Modules.{Part, IsCoreModule, AreCoreModules, names_in, core_part, project_part, parts_of}
+use Rattle.project_parts.specs.Modules.{name_of}
 
 abbrev pub Library : Type 0
 Library = List (List ℕ × List ℕ)

@@ -7,9 +7,9 @@ use Rattle.std.specs.Str.{bytes_eq}
 use Rattle.std.proofs.lemmas.List.{length-map}
 use Rattle.std.proofs.lemmas.Option.{slice_get_within}
 use Rattle.import_graph.specs.Order.{IsOrder, all_placed, next}
-use Rattle.module_graph.specs.Graph.{names_of, used, uses_of}
-use Rattle.module_walk.specs.Modules.{Module}
-use Rattle.project_build.specs.Modules.{core_names, parts_of, name_of}
+use Rattle.import_graph.specs.Graph.{names_of, used, uses_of}
+use Rattle.import_graph.specs.Modules.{Module}
+use Rattle.project_parts.specs.Modules.{core_names, parts_of, name_of}
 use Rattle.project_parts.specs.Laws.{AreToBuild, HasNumber}
 use Rattle.project_parts.proofs.Lower.{names, order_within}
 use Rattle.project_parts.proofs.Placing.{at_place, has_place, got_second, got_given, there_is, mapped, image}

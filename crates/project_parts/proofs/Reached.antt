@@ -9,16 +9,16 @@ use Rattle.std.proofs.lemmas.Bool.Decides.{nat_tests}
 use Rattle.std.proofs.lemmas.List.Elements.{All-contains, All-contains_itself, All-map, All-weaker}
 use Rattle.std.proofs.lemmas.Str.{IsUtf8-from_is_utf8}
 use Rattle.decl_groups.proofs.Basics.{member_map}
-use Rattle.module_files.specs.Places as place
-use Rattle.module_files.specs.Places.{Place, place_of, place_at, existing, paths_of, text_at, text_within}
-use Rattle.module_heads.specs.Heads.{HasImports}
-use Rattle.module_walk.specs.Entry.{IsEntry}
-use Rattle.module_walk.specs.Modules as walk
-use Rattle.module_walk.specs.Modules.{Setting, Source, IsReached, itself, imported, located, located_by}
-use Rattle.module_walk.specs.Modules.{place_in}
-use Rattle.module_walk.specs.Modules.{is_core, kind_of, Word, Module, IsWhole}
-use Rattle.module_walk.specs.Plain.{IsPlain, IsPlainImport}
-use Rattle.project_build.specs.Modules.{core_names}
+use Rattle.import_graph.specs.Places as place
+use Rattle.import_graph.specs.Places.{Place, place_of, place_at, existing, paths_of, text_at, text_within}
+use Rattle.import_graph.specs.Heads.{HasImports}
+use Rattle.import_graph.specs.Entry.{IsEntry}
+use Rattle.import_graph.specs.Modules as walk
+use Rattle.import_graph.specs.Modules.{Setting, Source, IsReached, itself, imported, located, located_by}
+use Rattle.import_graph.specs.Modules.{place_in}
+use Rattle.import_graph.specs.Modules.{is_core, kind_of, Word, Module, IsWhole}
+use Rattle.import_graph.specs.Plain.{IsPlain, IsPlainImport}
+use Rattle.project_parts.specs.Modules.{core_names}
 use Rattle.project_parts.specs.Laws.{Fits, AreOfBuild, AreToBuild}
 use Rattle.project_parts.proofs.Lower.{core_kind}
 use Rattle.project_parts.proofs.Texts.{entry_text}

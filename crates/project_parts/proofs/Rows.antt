@@ -9,8 +9,8 @@ use Rattle.std.proofs.lemmas.Iterator.Adapters.{position_from-zero}
 use Rattle.std.proofs.lemmas.List.{take_more, map-append}
 use Rattle.std.proofs.lemmas.List.Elements.{filter_map-append}
 use Rattle.std.proofs.lemmas.Slice.Eq.{bytes_eq-Decides}
-use Rattle.module_walk.specs.Modules.{Import, Module}
-use Rattle.project_build.specs.Modules.{Part, one_name, imported_names, name_of, project_part}
+use Rattle.import_graph.specs.Modules.{Import, Module}
+use Rattle.project_parts.specs.Modules.{Part, one_name, imported_names, name_of, project_part}
 use Rattle.project_parts.specs.View.{part_view}
 use Rattle.project_parts.specs.declared.parts.Part as program
 

@@ -13,8 +13,8 @@ use Rattle.std.proofs.lemmas.List.Splits.{join_with_byte-slice_split}
 use Rattle.std.proofs.lemmas.Str.{encodes-chars, scalars-chars, utf8_lossy-IsUtf8}
 use Rattle.std.proofs.lemmas.Str.{IsUtf8-append, IsUtf8-nil, IsUtf8-from_ascii}
 use Rattle.elm_base.specs.Units.{units_of_chars, text_units}
-use Rattle.module_files.specs.Entries.{NamesEntry}
-use Rattle.module_files.proofs.Texts.{slash_parts, entry_is_text}
+use Rattle.import_graph.specs.Entries.{NamesEntry}
+use Rattle.import_graph.proofs.Texts.{slash_parts, entry_is_text}
 use Rattle.project_file.specs.Paths.{is_kept, normal_path}
 
 -- ---- units

@@ -4,12 +4,12 @@ use Rattle.std.specs.List.{All, Contains}
 use Rattle.std.specs.Str.{IsUtf8}
 use Rattle.core_modules.specs.Library.{core_library}
 use Rattle.import_graph.specs.Order.{IsOrder}
-use Rattle.module_fold.specs.Fold.{IsOrdered}
-use Rattle.module_graph.specs.Graph.{AreModules, AreNumbered, names_of, uses_of}
-use Rattle.module_heads.specs.Heads.{HasImports}
-use Rattle.module_walk.specs.Modules.{Setting, Module}
-use Rattle.module_walk.specs.Plain.{IsPlain}
-use Rattle.project_build.specs.Modules.{Part, AreCoreModules, core_names, parts_of, graph_of, home_of, number_of}
+use Rattle.import_graph.specs.Fold.{IsOrdered}
+use Rattle.import_graph.specs.Graph.{AreModules, AreNumbered, names_of, uses_of}
+use Rattle.import_graph.specs.Heads.{HasImports}
+use Rattle.import_graph.specs.Modules.{Setting, Module}
+use Rattle.import_graph.specs.Plain.{IsPlain}
+use Rattle.project_parts.specs.Modules.{Part, AreCoreModules, core_names, parts_of, graph_of, home_of, number_of}
 
 -- the modules of a project with their order, and the core library
 pub record AreOfBuild (core ms : List Module) (order : List ℕ) : Type 0 where

@@ -2,13 +2,13 @@
 use Rattle.std.specs.Prelude.{◌≡◌, ℕ, List, [], Option, None, Some, if◌then◌else◌, map}
 use Rattle.std.specs.List.{list_any}
 use Rattle.std.specs.Str.{bytes_eq}
-use Rattle.module_files.specs.Places.{text_within}
-use Rattle.module_heads.specs.Heads.{HasImports}
-use Rattle.module_walk.specs.Modules.{Word, Import, Module}
-use Rattle.module_walk.specs.View.{module_view}
-use Rattle.module_walk.specs.declared.found.Found.{Found}
-use Rattle.module_walk.specs.declared.found.Found.TheVariants.{Nowhere, Core}
-use Rattle.project_build.specs.Modules.{AreCoreModules, names_in}
+use Rattle.import_graph.specs.Places.{text_within}
+use Rattle.import_graph.specs.Heads.{HasImports}
+use Rattle.import_graph.specs.Modules.{Word, Import, Module}
+use Rattle.import_graph.specs.ModuleWalkView.{module_view}
+use Rattle.import_graph.specs.declared.found.Found.{Found}
+use Rattle.import_graph.specs.declared.found.Found.TheVariants.{Nowhere, Core}
+use Rattle.project_parts.specs.Modules.{AreCoreModules, names_in}
 use Rattle.project_parts.specs.declared.loading.Library as program
 
 -- which modules have a name, where those of these names alone do

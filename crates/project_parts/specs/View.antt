@@ -2,8 +2,8 @@
 use Rattle.std.specs.Prelude.{ℕ, List, Option}
 use Rattle.std.specs.Str.{bytes_eq}
 use Rattle.indexmap.specs.IndexMap.{IndexMap, get}
-use Rattle.module_walk.specs.View.{module_view}
-use Rattle.project_build.specs.Modules.{Part}
+use Rattle.import_graph.specs.ModuleWalkView.{module_view}
+use Rattle.project_parts.specs.Modules.{Part}
 use Rattle.project_parts.specs.declared.parts.Part as program
 
 abbrev pub part_view : program.Part → Part

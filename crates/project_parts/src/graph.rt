@@ -5,15 +5,15 @@ ghost use Rattle.std.specs.Prelude.{if◌then◌else◌, IfOk, OnOk};
 ghost use Rattle.std.specs.Str.{bytes_eq};
 ghost use Rattle.std.specs.List.{filter_map};
 ghost use Rattle.decl_groups.specs.Groups.{plain};
-ghost use Rattle.module_walk.specs.View.{import_view};
-ghost use Rattle.project_build.specs.Modules as build;
-ghost use Rattle.project_build.specs.Modules.{default_names, one_name, imported_names, name_of};
+ghost use Rattle.import_graph.specs.ModuleWalkView.{import_view};
+ghost use Rattle.project_parts.specs.Modules as build;
+ghost use Rattle.project_parts.specs.Modules.{default_names, one_name, imported_names, name_of};
 ghost use Rattle.project_parts.specs.View.{part_view, number_at};
 
 use crate::parts::Part;
 use elm_base::text::Text;
+use import_graph::{Found, Import};
 use indexmap::IndexMap;
-use module_walk::{Found, Import};
 use std::alloc::{AllocError, Global};
 
 /// Gives the name of a part this number.

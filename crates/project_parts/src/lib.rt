@@ -6,6 +6,7 @@ mod graph;
 pub mod laws;
 mod loading;
 mod parts;
+pub mod project_build_laws;
 
 pub use graph::graph_of;
 pub use loading::{Library, core_library};

@@ -4,17 +4,16 @@ ghost use Rattle.std.specs.Prelude.{◌≡◌, ◌++◌, ◌∷◌, [], ℕ, Lis
 ghost use Rattle.std.specs.List.{list_any};
 ghost use Rattle.std.specs.Str.{bytes_eq};
 ghost use Rattle.core_modules.specs.Library as core;
-ghost use Rattle.module_files.specs.Places.{text_within};
-ghost use Rattle.module_walk.specs.View.{module_view, import_view};
-ghost use Rattle.module_walk.specs.Words.{word_view};
-ghost use Rattle.project_build.specs.Modules.{AreCoreModules, core_names, names_in};
+ghost use Rattle.import_graph.specs.Places.{text_within};
+ghost use Rattle.import_graph.specs.ModuleWalkView.{module_view, import_view};
+ghost use Rattle.import_graph.specs.Words.{word_view};
+ghost use Rattle.project_parts.specs.Modules.{AreCoreModules, core_names, names_in};
 ghost use Rattle.project_parts.specs.Library.{found_among, import_among, ImportsAmong, IsNext, IsCore};
 
 use core_modules::library as texts;
 use elm_base::text::Text;
+use import_graph::{Found, Import, Module, Written, imports};
 use indexmap::IndexSet;
-use module_heads::imports;
-use module_walk::{Found, Import, Module, Written};
 use std::alloc::{AllocError, Global};
 
 /// The most bytes that the text of a module may have.

@@ -2,14 +2,13 @@
 
 ghost use Rattle.std.specs.Prelude.{◌≡◌, ◌++◌, map, slice_get, option_to_list, IfOk, OnOk};
 ghost use Rattle.std.specs.List.{filter_map};
-ghost use Rattle.module_graph.specs.View.{graph_modules};
-ghost use Rattle.module_walk.specs.View.{module_view};
-ghost use Rattle.project_build.specs.Modules as build;
-ghost use Rattle.project_build.specs.Modules.{core_part, project_part};
+ghost use Rattle.import_graph.specs.ModuleGraphView.{graph_modules};
+ghost use Rattle.import_graph.specs.ModuleWalkView.{module_view};
+ghost use Rattle.project_parts.specs.Modules as build;
+ghost use Rattle.project_parts.specs.Modules.{core_part, project_part};
 ghost use Rattle.project_parts.specs.View.{part_view};
 
-use module_graph::Graph;
-use module_walk::Module;
+use import_graph::{Graph, Module};
 use std::alloc::{AllocError, Global};
 
 /// A module of a build.

@@ -5,8 +5,8 @@ use Rattle.std.specs.Prelude.{flat_map, not}
 use Rattle.std.specs.List.{list_any, filter}
 use Rattle.std.proofs.lemmas.Bool.{false≢true}
 use Rattle.std.proofs.lemmas.Grind.{flat_map-append}
-use Rattle.binding_groups.proofs.Reaching.{or_cases}
-use Rattle.group_order.proofs.Ordering.{not_true}
+use Rattle.decl_groups.proofs.Reaching.{or_cases}
+use Rattle.decl_groups.proofs.Ordering.{not_true}
 use Rattle.elm_tree.specs.Regroup.{Row, operator_rows}
 use Rattle.std.specs.Str.{bytes_eq}
 use Rattle.std.proofs.lemmas.Slice.Eq.{bytes_eq-Decides}
@@ -20,8 +20,8 @@ use Rattle.canon_env.specs.Shown.{Shown}
 use Rattle.canon_module.specs.Resolve.{IsModule, module_shows}
 use Rattle.canon_env.specs.Exposing.{is_operator}
 use Rattle.canon_env.proofs.Adding.{one_name}
-use Rattle.elm_proper.specs.Proper.{Scope, among, IsIn, with_all}
-use Rattle.elm_proper.specs.Declarations.{ProperDeclarations, declared_names, after_declarations}
+use Rattle.elm_canon.specs.Proper.{Scope, among, IsIn, with_all}
+use Rattle.elm_canon.specs.Declarations.{ProperDeclarations, declared_names, after_declarations}
 use Rattle.canon_proper.specs.Narrower.{IsNarrower}
 use Rattle.canon_proper.specs.Worlds.{operator_ref}
 use Rattle.canon_proper.proofs.Scopes.{in_more, in_first, name_itself}
@@ -29,23 +29,23 @@ use Rattle.canon_proper.proofs.Apart.{in_either, in_left, in_right}
 use Rattle.canon_proper.proofs.Narrowing.{narrower_with}
 use Rattle.module_proper.specs.Modules.{value_refs, maker_refs, IsAround, IsOffered, AreOffered, HasAll, tops, AreRead}
 use Rattle.module_proper.specs.Modules.{AreBare, union_makers, alias_makers}
-use Rattle.elm_proper.specs.Spelled.{are_fields}
+use Rattle.elm_canon.specs.Spelled.{are_fields}
 use Rattle.emit_laws.specs.Programs.{in_ports}
 use Rattle.emit_size_laws.specs.Small.{PortsHaveFields}
-use Rattle.port_proper.specs.Records.{AliasesHaveRecords, ImportsHaveRecords}
+use Rattle.module_proper.specs.Records.{AliasesHaveRecords, ImportsHaveRecords}
 use Rattle.canon_proper.specs.Rows.{AreUnions, AreConstructors}
 use Rattle.module_proper.proofs.Numbers.{no_local, one_home}
 use Rattle.module_proper.proofs.Groups.{declarations_more}
 use Rattle.module_proper.proofs.Resolved.{resolved_proper, resolved_there}
 use Rattle.module_proper.proofs.Showing.{offers}
-use Rattle.fragments.specs.Made.{refs_used}
-use Rattle.link_proper.proofs.Sublists.{names_all}
-use Rattle.link_proper.proofs.Left.{in_with, in_front, after_names, after_only, all_new, narrow_declaration}
+use Rattle.link.specs.Made.{refs_used}
+use Rattle.project_proper.proofs.Sublists.{names_all}
+use Rattle.project_proper.proofs.Left.{in_with, in_front, after_names, after_only, all_new, narrow_declaration}
 use Rattle.project_proper.proofs.Used.{only}
 use Rattle.project_proper.proofs.Within.{offered_within, records_within}
 use Rattle.project_proper.specs.Resolved.{Resolved, all_declarations, scope_after, IsImport, AreImports, ShowsTypes}
 use Rattle.project_proper.specs.Resolved.{IsUnused, HasOperator, IsNext, AreNext, HomesApart}
-use Rattle.port_proper.proofs.Resolved.{payloads_well, names_once, shown_well}
+use Rattle.module_proper.proofs.PortProperResolved.{payloads_well, names_once, shown_well}
 
 -- ---- homes
 

@@ -7,23 +7,23 @@ use Rattle.std.specs.Ordering.{is_lt, nat_cmp}
 use Rattle.std.specs.Cmp.Lexicographic.{slice_cmp}
 use Rattle.std.proofs.lemmas.Cmp.{nat_list_cmp_total, tied_itself}
 use Rattle.std.proofs.lemmas.Bool.{false≢true, and_parts}
-use Rattle.group_order.proofs.Ordering.{not_true}
+use Rattle.decl_groups.proofs.Ordering.{not_true}
 use Rattle.elm_canon.specs.Names.{Name, same_name}
 use Rattle.elm_canon.specs.Tree.{Payload, IntPayload, BoolPayload, TextPayload, MaybePayload, ListPayload}
 use Rattle.elm_canon.specs.Tree.{TuplePayload, RecordPayload, Payloads, NoPayload, MorePayload, PayloadFields}
 use Rattle.elm_canon.specs.Tree.{NoPayloadField, MorePayloadField}
 use Rattle.elm_type.specs.Types.{ElmType, Leaf, Scheme}
 use Rattle.elm_type.specs.Rows.{name_lt}
-use Rattle.elm_proper.specs.Spelled.{is_word}
-use Rattle.elm_proper.specs.Spelled as spelled
+use Rattle.elm_canon.specs.Spelled.{is_word}
+use Rattle.elm_canon.specs.Spelled as spelled
 use Rattle.canon_env.proofs.Adding.{one_name}
 use Rattle.elm_meaning.specs.Run.{AnyFlags}
-use Rattle.emit_choice_laws.specs.Given.{payload_names}
+use Rattle.emit_laws.specs.Given.{payload_names}
 use Rattle.emit_size_laws.specs.Small.{HasFields, AllHaveFields, FieldsHaveFields, FlagsHaveFields}
-use Rattle.entry_type.specs.Payloads.{is_after, has_fields, all_have_fields, are_fields, with_fields, type_payload}
-use Rattle.entry_type.specs.Payloads.{flags_payload}
-use Rattle.entry_type.specs.Entry.{entry_type, entry_by, with_flags, with_payload, flags_in, is_unit, text_of}
-use Rattle.entry_type.specs.Entry as entry
+use Rattle.port_payload.specs.EntryTypePayloads.{is_after, has_fields, all_have_fields, are_fields, with_fields, type_payload}
+use Rattle.port_payload.specs.EntryTypePayloads.{flags_payload}
+use Rattle.port_payload.specs.Entry.{entry_type, entry_by, with_flags, with_payload, flags_in, is_unit, text_of}
+use Rattle.port_payload.specs.Entry as entry
 use Rattle.link.specs.Programs.{flags_said}
 use Rattle.project_proper.specs.Flags.{WordsAreFields}
 

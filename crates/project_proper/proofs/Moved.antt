@@ -10,19 +10,19 @@ use Rattle.elm_canon.specs.declared.reference.Ref.TheVariants.{Local}
 use Rattle.elm_canon.specs.Tree.{Declaration, Given, Define, Together, Constant, Destructure}
 use Rattle.elm_canon.specs.Tree.{NoFunction, MoreFunction}
 use Rattle.elm_meaning.specs.Functions.{Primitive}
-use Rattle.elm_proper.specs.Spelled.{is_spelled}
-use Rattle.elm_proper.specs.Proper.{Scope, among, IsIn, with_all, AreFresh, function_names}
-use Rattle.elm_proper.specs.Declarations.{ProperDeclaration, ProperDeclarations, declared_names}
-use Rattle.emit_subset_laws.specs.Programs.{AllSpelled}
-use Rattle.group_order.proofs.Ordering.{not_true}
+use Rattle.elm_canon.specs.Spelled.{is_spelled}
+use Rattle.elm_canon.specs.Proper.{Scope, among, IsIn, with_all, AreFresh, function_names}
+use Rattle.elm_canon.specs.Declarations.{ProperDeclaration, ProperDeclarations, declared_names}
+use Rattle.emit_size_laws.specs.Programs.{AllSpelled}
+use Rattle.decl_groups.proofs.Ordering.{not_true}
 use Rattle.canon_proper.specs.Narrower.{IsNarrower}
 use Rattle.canon_proper.proofs.Scopes.{in_more, in_first}
 use Rattle.canon_proper.proofs.Apart.{fresh_in, fresh_less, fresh_none, in_either, in_left, in_right}
 use Rattle.canon_proper.proofs.Narrowing.{narrow, narrow_functions}
 use Rattle.module_proper.specs.Inside.{IsInside, AllInside}
-use Rattle.core_functions.specs.Cores.{primitive_of, named, core_of, kept_by, others}
-use Rattle.link_proper.proofs.Sublists.{Sub, none, take, skip, names_all}
-use Rattle.link_proper.proofs.Left.{in_with, in_front}
+use Rattle.link.specs.Cores.{primitive_of, named, core_of, kept_by, others}
+use Rattle.project_proper.proofs.Sublists.{Sub, none, take, skip, names_all}
+use Rattle.project_proper.proofs.Left.{in_with, in_front}
 use Rattle.project_proper.proofs.Used.{used, inside_used, only_one}
 
 -- ---- functions that no text can say

@@ -3,15 +3,15 @@ use Rattle.std.proofs.Common.{◌≡◌, List, [], ◌∷◌, ◌++◌, map, tru
 use Rattle.std.proofs.Common.{◌⊎◌, inl, inr, ⊎_elim, append_assoc}
 use Rattle.std.proofs.lemmas.Bool.{false≢true}
 use Rattle.std.proofs.lemmas.Grind.{flat_map-append}
-use Rattle.group_order.proofs.Ordering.{not_true}
+use Rattle.decl_groups.proofs.Ordering.{not_true}
 use Rattle.elm_canon.specs.Names.{Name}
 use Rattle.elm_canon.specs.Tree.{Declaration, Given, Define, Group, Together, Constant, Destructure}
 use Rattle.elm_canon.specs.declared.reference.Ref.{Ref}
 use Rattle.elm_canon.specs.declared.reference.Ref.TheVariants.{Local, Top}
 use Rattle.canon_env.specs.Imports.{name_of}
-use Rattle.canon_names.specs.Names.{names_in}
-use Rattle.canon_uses.specs.Uses.{group_uses}
-use Rattle.elm_proper.specs.Proper.{Scope, among, IsIn, with_all}
+use Rattle.canon_module.specs.Names.{names_in}
+use Rattle.canon_env.specs.Uses.{group_uses}
+use Rattle.elm_canon.specs.Proper.{Scope, among, IsIn, with_all}
 use Rattle.canon_proper.specs.Narrower.{IsNarrower, KeepsAll}
 use Rattle.canon_proper.proofs.Scopes.{in_more, name_itself}
 use Rattle.canon_proper.proofs.Narrowing.{narrow, narrow_functions}
@@ -20,9 +20,9 @@ use Rattle.module_proper.specs.Inside.{IsInside, IsInsideGroup, AllInside}
 use Rattle.module_proper.proofs.Inside.{inside_both}
 use Rattle.module_proper.proofs.Resolved.{resolved_inside, resolved_there}
 use Rattle.module_proper.proofs.Numbers.{no_local}
-use Rattle.fragments.specs.Made.{refs_used}
-use Rattle.link_proper.proofs.Sublists.{names_all}
-use Rattle.link_proper.proofs.Left.{in_with, in_front, after_only, after_names}
+use Rattle.link.specs.Made.{refs_used}
+use Rattle.project_proper.proofs.Sublists.{names_all}
+use Rattle.project_proper.proofs.Left.{in_with, in_front, after_only, after_names}
 use Rattle.project_proper.specs.Resolved.{Resolved, all_declarations, scope_after, IsUnused, IsNext, AreNext}
 use Rattle.project_proper.specs.Resolved.{HomesApart}
 use Rattle.project_proper.proofs.First.{home_of, is_of, Owned, owned_of, in_scope_of, in_scope}

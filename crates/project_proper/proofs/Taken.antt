@@ -5,29 +5,29 @@ use Rattle.std.proofs.Common.{◌⊎◌, inl, inr, ⊎_elim, ◌||◌, ℕ, zero
 use Rattle.std.specs.Prelude.{slice_get}
 use Rattle.std.specs.List.{list_any, filter_map, cons_option}
 use Rattle.std.proofs.lemmas.Bool.{false≢true}
-use Rattle.group_order.proofs.Ordering.{not_true}
+use Rattle.decl_groups.proofs.Ordering.{not_true}
 use Rattle.elm_canon.specs.Names.{Name, same_name}
 use Rattle.elm_canon.specs.Tree.{Declaration, Given, Define, Together, Constant, Destructure}
 use Rattle.elm_canon.specs.Tree.{OutPort, InPort, Maker, RecordMaker}
 use Rattle.elm_canon.specs.declared.reference.Ref.{Ref}
 use Rattle.elm_canon.specs.declared.reference.Ref.TheVariants.{Local, Top}
 use Rattle.elm_meaning.specs.Functions.{Primitive}
-use Rattle.elm_proper.specs.Proper.{Scope, among, IsIn, with_all, AreFresh}
-use Rattle.elm_proper.specs.Declarations.{ProperDeclaration, ProperDeclarations, declared_names}
+use Rattle.elm_canon.specs.Proper.{Scope, among, IsIn, with_all, AreFresh}
+use Rattle.elm_canon.specs.Declarations.{ProperDeclaration, ProperDeclarations, declared_names}
 use Rattle.canon_proper.proofs.Apart.{fresh_join, in_either, in_left, in_right}
 use Rattle.module_proper.specs.Inside.{AllInside}
 use Rattle.emit_laws.specs.Programs.{primitive_scope}
 use Rattle.emit_size_laws.specs.Small.{PortsHaveFields}
-use Rattle.emit_subset_laws.specs.Programs.{AllSpelled}
-use Rattle.core_functions.specs.Cores.{core_of, kept_by, others}
+use Rattle.emit_size_laws.specs.Programs.{AllSpelled}
+use Rattle.link.specs.Cores.{core_of, kept_by, others}
 use Rattle.link.specs.Programs.{Source}
-use Rattle.link_proper.specs.Modules.{AreProper, AreApart, PortsAreWords, whole_scope, cores_of, refs_of}
-use Rattle.link_proper.specs.Modules.{declarations_of}
-use Rattle.link_proper.proofs.Sublists.{names_all, names_sub, fresh_sub, payloads_sub, among_sub}
-use Rattle.link_proper.proofs.Left.{in_with, in_front, after_in, after_names, after_only, all_new}
-use Rattle.link_proper.proofs.Whole.{links_proper}
+use Rattle.project_proper.specs.Modules.{AreProper, AreApart, PortsAreWords, whole_scope, cores_of, refs_of}
+use Rattle.project_proper.specs.Modules.{declarations_of}
+use Rattle.project_proper.proofs.Sublists.{names_all, names_sub, fresh_sub, payloads_sub, among_sub}
+use Rattle.project_proper.proofs.Left.{in_with, in_front, after_in, after_names, after_only, all_new}
+use Rattle.project_proper.proofs.Whole.{links_proper}
 use Rattle.module_proper.specs.Modules.{value_refs}
-use Rattle.link_proper.proofs.Ports.{fields_sub, sub_ports}
+use Rattle.project_proper.proofs.Ports.{fields_sub, sub_ports}
 use Rattle.project_proper.specs.Resolved.{Resolved, source_of, all_declarations, scope_after, HomesApart, AreResolved}
 use Rattle.project_proper.specs.Resolved.{ResolvedAreProper, ResolvedLinks, ValuesInScope}
 use Rattle.project_proper.proofs.Moved.{core_refs, core_names, others_sub, cores_sub, cores_spelled, AreBoth, moved}

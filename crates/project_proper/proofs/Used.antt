@@ -9,15 +9,15 @@ use Rattle.elm_canon.specs.Tree.{Group, Together, Constant, Destructure, Functio
 use Rattle.elm_canon.specs.Names.{same_ref}
 use Rattle.elm_canon.specs.declared.reference.Ref.{Ref}
 use Rattle.elm_canon.specs.declared.reference.Ref.TheVariants.{Local, Top}
-use Rattle.canon_uses.specs.Uses.{expr_uses, exprs_uses, branches_uses, groups_uses, group_uses, functions_uses}
-use Rattle.elm_proper.specs.Proper.{Scope, IsIn, with_all, AreFresh, bound_by, all_bound_by, after}
-use Rattle.elm_proper.specs.Proper.{Proper, AllProper, ProperBranches, ProperGroups, ProperGroup, ProperFunctions}
-use Rattle.elm_proper.specs.Proper.{function_names, group_names}
+use Rattle.canon_env.specs.Uses.{expr_uses, exprs_uses, branches_uses, groups_uses, group_uses, functions_uses}
+use Rattle.elm_canon.specs.Proper.{Scope, IsIn, with_all, AreFresh, bound_by, all_bound_by, after}
+use Rattle.elm_canon.specs.Proper.{Proper, AllProper, ProperBranches, ProperGroups, ProperGroup, ProperFunctions}
+use Rattle.elm_canon.specs.Proper.{function_names, group_names}
 use Rattle.canon_proper.specs.Narrower.{KeepsAll}
 use Rattle.canon_proper.proofs.Scopes.{in_more, one_ref}
 use Rattle.canon_proper.proofs.Apart.{fresh_none, in_either}
 use Rattle.module_proper.specs.Inside.{IsInsideGroup}
-use Rattle.link_proper.proofs.Left.{in_with}
+use Rattle.project_proper.proofs.Left.{in_with}
 
 -- what stands in both scopes is no name that is new in the wider one
 below : (xs : List Ref) (a w : Scope) (r : Ref) → AreFresh xs w → IsIn r w → IsIn r (with_all xs a) → IsIn r a

@@ -14,14 +14,14 @@ use Rattle.canon_env.proofs.Adding.{same_name-sym}
 use Rattle.canon_env.specs.Env.{declared_alternatives}
 use Rattle.canon_env.specs.Exposing.{is_among}
 use Rattle.canon_env.specs.Shown.{Shown}
-use Rattle.elm_proper.specs.Proper.{Scope, IsIn}
+use Rattle.elm_canon.specs.Proper.{Scope, IsIn}
 use Rattle.canon_proper.proofs.Apart.{in_either, in_left, in_right}
 use Rattle.canon_proper.specs.Rows.{AreConstructors, AreUnions}
 use Rattle.module_proper.specs.Modules.{tops, HasAll, IsOffered, union_makers, alias_makers, shown_makers}
 use Rattle.module_proper.proofs.Numbers.{one_home, among_tops, no_local}
-use Rattle.port_proper.specs.Records.{HasRecords, AliasesHaveRecords}
+use Rattle.module_proper.specs.Records.{HasRecords, AliasesHaveRecords}
 use Rattle.project_proper.specs.Resolved.{ShowsWithin}
-use Rattle.top_uses.specs.TopUses.{is_named}
+use Rattle.canon_module.specs.TopUses.{is_named}
 
 -- ---- names of the parts of a list
 

@@ -14,17 +14,17 @@ use Rattle.canon_env.specs.Env.{Known}
 use Rattle.canon_env.specs.Exposing.{is_among, is_operator, operator_home}
 use Rattle.canon_env.specs.Shown.{Shown}
 use Rattle.canon_module.specs.Resolve.{Setting, IsModule, module_faults, module_shows}
-use Rattle.elm_proper.specs.Spelled.{is_module}
-use Rattle.elm_proper.specs.Proper.{Scope, among, IsIn, with_all}
-use Rattle.elm_proper.specs.Declarations.{after_declarations}
+use Rattle.elm_canon.specs.Spelled.{is_module}
+use Rattle.elm_canon.specs.Proper.{Scope, among, IsIn, with_all}
+use Rattle.elm_canon.specs.Declarations.{after_declarations}
 use Rattle.canon_proper.specs.Worlds.{operator_ref}
 use Rattle.module_proper.specs.Modules.{AreRead, AreBare, value_refs}
-use Rattle.core_functions.specs.Cores.{cores_of, without_cores}
-use Rattle.fragments.specs.Made.{refs_used}
+use Rattle.link.specs.Cores.{cores_of, without_cores}
+use Rattle.link.specs.Made.{refs_used}
 use Rattle.emit_size_laws.specs.Small.{NamedProgram}
 use Rattle.link.specs.Link.{Output, Links, link}
 use Rattle.link.specs.Programs.{Source, part_of, program_of}
-use Rattle.link_proper.specs.Modules.{AreProper}
+use Rattle.project_proper.specs.Modules.{AreProper}
 
 -- a module: its path, what it was resolved against, its tree, what it means, and the type of its `main`, if it has one
 pub record Resolved : Type 0 where

@@ -11,7 +11,7 @@ use Rattle.js_meaning.specs.Run.{j_machine}
 use Rattle.js_run.specs.Sessions.{Outcome, Done, Refused, Crashed, OutOfFuel, Unsafe, Stuck, State, Running, Over}
 use Rattle.js_run.specs.Sessions.{sends_before, session_on, model_in, sends_in, begun, begin_session, deliver_to}
 use Rattle.js_run.specs.Sessions.{answer_heard, answer_input, last_of, refusal_before, told_answer, told}
-use Rattle.run_text.specs.Told.{told_text, is_ready, refused_line, last_line, sends_text, send_line}
+use Rattle.run_files.specs.Told.{told_text, is_ready, refused_line, last_line, sends_text, send_line}
 use Rattle.run_files.specs.Steps.{answer_text, start_text, goes_on, is_done, IsRunning, IsBegun}
 
 -- after an input

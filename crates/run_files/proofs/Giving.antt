@@ -11,9 +11,9 @@ use Rattle.js_meaning.specs.Values.{JVal}
 use Rattle.js_meaning.specs.Run.{j_machine, JsRun}
 use Rattle.runs.specs.Driver.{Machine}
 use Rattle.js_run.specs.Sessions.{Outcome, Answer, State, answer_input, begin_session, told, told_session}
-use Rattle.run_text.specs.Told.{told_text, is_ready}
-use Rattle.run_text.specs.declared.given.Input.{Input}
-use Rattle.run_text.specs.View.{input_view}
+use Rattle.run_files.specs.Told.{told_text, is_ready}
+use Rattle.run_files.specs.declared.given.Input.{Input}
+use Rattle.run_files.specs.View.{input_view}
 use Rattle.run_files.specs.declared.course.Ended.{Ended}
 use Rattle.run_files.specs.declared.course.Ended.TheVariants as ended
 use Rattle.run_files.specs.declared.course.RunEnd.{RunEnd}

@@ -6,3 +6,7 @@ pub mod Giving
 pub mod Remains
 -- what an answer leaves
 pub mod Answers
+-- what a line gives, and lines one after the other
+pub mod Inputs
+-- where texts are cut
+pub mod Cutting

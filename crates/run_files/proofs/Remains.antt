@@ -3,7 +3,7 @@ use Rattle.std.proofs.Common.{◌≡◌, ℕ, zero, suc, List, [], ◌∷◌, �
 use Rattle.std.proofs.Common.{◌∙◌, append_assoc, append-nil}
 use Rattle.elm_files.specs.Texts.{LongerByPart, longer}
 use Rattle.runs.specs.Trace.{Trace}
-use Rattle.run_text.specs.Told.{told_text, is_ready}
+use Rattle.run_files.specs.Told.{told_text, is_ready}
 use Rattle.run_files.specs.declared.course.RunEnd.{RunEnd}
 use Rattle.run_files.specs.declared.course.RunEnd.TheVariants.{File, Sink, NoMemory}
 use Rattle.run_files.specs.Steps.{PutsPart}

@@ -4,7 +4,7 @@ use Rattle.std.specs.Prelude.{◌≡◌, ◌<◌, ◌⊎◌, ℕ, List, Option, 
 use Rattle.elm_files.specs.Texts.{LongerByPart, longer}
 use Rattle.elm_files.specs.Tree.{Tree}
 use Rattle.runs.specs.Trace.{Trace}
-use Rattle.run_text.specs.Told.{told_text, is_ready}
+use Rattle.run_files.specs.Told.{told_text, is_ready}
 use Rattle.run_files.specs.Runs.{Outcome, Refused, Ran, RunsTo}
 use Rattle.run_files.specs.declared.course.Ended.{Ended}
 use Rattle.run_files.specs.declared.course.Ended.TheVariants as ended

@@ -12,7 +12,7 @@ use Rattle.js_tree.specs.Faults.{Place, IsFaultAt}
 use Rattle.js_meaning.specs.Run.{JsRun}
 use Rattle.runs.specs.Trace.{Trace}
 use Rattle.js_code.specs.Ports.{names_of}
-use Rattle.run_text.specs.Given.{Given, BadLine, UnknownPort, Inputs, given}
+use Rattle.run_files.specs.Given.{Given, BadLine, UnknownPort, Inputs, given}
 
 -- the line of the first fault, or a run
 pub data Outcome : Type 0 where

@@ -8,7 +8,7 @@ use Rattle.runs.specs.Trace as trace
 use Rattle.runs.specs.Trace.{Trace, send_all}
 use Rattle.runs.specs.Driver.{Machine}
 use Rattle.wire_value.specs.Wire.{Wire}
-use Rattle.run_text.specs.Told.{told_text, is_ready, refused_line, last_line, sends_text}
+use Rattle.run_files.specs.Told.{told_text, is_ready, refused_line, last_line, sends_text}
 use Rattle.js_run.specs.Sessions.{Outcome, Done, Refused, Crashed, OutOfFuel, Unsafe, Stuck, Answer, State, Running}
 use Rattle.js_run.specs.Sessions.{Over, last_of, told}
 use Rattle.run_files.specs.Runs as runs

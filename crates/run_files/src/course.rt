@@ -6,13 +6,14 @@ ghost use Rattle.js_tree.specs.Postorder.{ProgramOf, trees_of, top};
 ghost use Rattle.js_tree.specs.Tree as plain;
 ghost use Rattle.js_code.specs.Program.{program_view};
 ghost use Rattle.js_code.specs.Ports.{names_of};
-ghost use Rattle.run_text.specs.Given.{given};
+ghost use Rattle.run_files.specs.Given.{given};
 ghost use Rattle.run_files.specs.Runs as runs;
 ghost use Rattle.run_files.specs.Runs.{outcome_for};
 ghost use Rattle.run_files.specs.RunEnd.{IsRun, HasCause, IsToldIfRose, LeavesAtEnd, Says};
 ghost use Rattle.run_files.specs.Steps.{file_found, found_view, IsFileEnd, IsRunBy, IsShort, IsStop, OfProgram, OfText};
 ghost use Rattle.run_files.specs.Steps.{StopsAt};
 
+use crate::given::{Given, read_inputs};
 use crate::lines::line_at;
 use crate::session::run_session;
 use bumpalo::Bump;
@@ -22,10 +23,9 @@ use elm_base::text::Text;
 use elm_files::{FileError, Files, Got, Sink};
 use js_code::load::load;
 use js_code::program::Program;
-use js_reader::{Refusal, read};
+use js_scope::{Refusal, read};
 use js_tree::laws::stop_law;
 use js_tree::trees::Trees;
-use run_text::given::{Given, read_inputs};
 use std::alloc::{AllocError, Global};
 
 /// The most bytes that the text of a program may have.

@@ -2,7 +2,10 @@
 #![tactic(auto)]
 
 mod course;
+mod cuts;
+pub mod given;
 mod lines;
 mod session;
+pub mod told;
 
 pub use course::{Ended, RunEnd, run};

@@ -1,21 +1,21 @@
 //! Lines of faults, and those of an answer.
 
 ghost use Rattle.std.specs.Prelude.{◌≡◌, ◌++◌, IfOk, OnOk};
-ghost use Rattle.js_host.specs.Stages.{sends_view};
+ghost use Rattle.js_run.specs.Stages.{sends_view};
 ghost use Rattle.js_run.specs.Sessions.{last_of};
 ghost use Rattle.js_run.specs.Views.{answer_view, end_view};
-ghost use Rattle.run_text.specs.Told.{last_line, sends_text};
+ghost use Rattle.run_files.specs.Told.{last_line, sends_text};
 ghost use Rattle.run_files.specs.Runs as runs;
 ghost use Rattle.run_files.specs.Steps.{answer_text, end_line, start_text};
 
+use crate::told::{
+    put_crash, put_flags_refused, put_out_of_fuel, put_refused, put_send, put_stuck, put_unsafe,
+};
 use elm_base::fault::{Code, Fault, fault_line};
 use elm_base::position::{Pos, Region};
 use elm_base::text::Text;
-use js_host::stage::Sent;
 use js_run::app::{Answer, End};
-use run_text::told::{
-    put_crash, put_flags_refused, put_out_of_fuel, put_refused, put_send, put_stuck, put_unsafe,
-};
+use js_run::stage::Sent;
 use std::alloc::{AllocError, Global};
 
 /// The line of a fault in the file at `path`.

@@ -7,18 +7,18 @@ ghost use Rattle.js_code.specs.Program.{program_view};
 ghost use Rattle.js_meaning.specs.Run.{JsRun};
 ghost use Rattle.js_run.specs.Sessions.{answer_input, told};
 ghost use Rattle.js_run.specs.Views.{answer_view, app_view, end_view, machine_of};
-ghost use Rattle.run_text.specs.Told.{told_text};
-ghost use Rattle.run_text.specs.View.{input_view};
+ghost use Rattle.run_files.specs.Told.{told_text};
+ghost use Rattle.run_files.specs.View.{input_view};
 ghost use Rattle.run_files.specs.Steps.{answer_text, begun_trace, goes_on, is_done, IsBegun, IsRunning, PutsPart};
 ghost use Rattle.run_files.specs.Steps.{Tells};
 
 use crate::course::{Ended, RunEnd};
+use crate::given::Input;
 use crate::lines::{input_lines, start_lines};
 use bumpalo::Bump;
 use elm_files::{FileError, Sink};
 use js_code::program::Program;
 use js_run::app::{Answer, App, End, input, laws, start};
-use run_text::given::Input;
 use std::alloc::Global;
 use wire_value::Wire;
 

@@ -3,3 +3,7 @@ pub mod Trace
 pub mod Driver
 pub mod Pay
 pub mod Alike
+pub mod Numbers
+pub mod Texts
+pub mod Members
+pub mod Examples

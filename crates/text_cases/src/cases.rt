@@ -2,7 +2,7 @@
 
 use elm_base::position::Pos;
 use js_printer::print;
-use js_reader::{Refusal, read};
+use js_scope::{Refusal, read};
 use js_tree::runtime::{HEAD, TAIL};
 use std::alloc::{AllocError, Global};
 

@@ -4,10 +4,10 @@ use Rattle.std.proofs.Common.{⊎_elim}
 use Rattle.std.specs.List.{Contains}
 use Rattle.elm_type.specs.Types.{Name, Kind, Scheme, kind_at}
 use Rattle.elm_type.specs.Classes.{Ground, meets}
-use Rattle.ground_types.specs.Ground.{lacks, lacks_all, fits}
-use Rattle.scheme_order.specs.Order.{in_order, kind_in_order, scheme_in_order}
-use Rattle.scheme_order.proofs.Ascending.{first_or, first_in, rest_in, none_in}
-use Rattle.scheme_order.proofs.Inserted.{same_names}
+use Rattle.elm_type.specs.Ground.{lacks, lacks_all, fits}
+use Rattle.elm_type.specs.Order.{in_order, kind_in_order, scheme_in_order}
+use Rattle.elm_type.proofs.Ascending.{first_or, first_in, rest_in, none_in}
+use Rattle.elm_type.proofs.Inserted.{same_names}
 use Rattle.typed_values.proofs.Keeping.{and_left, and_right, and_both}
 use Rattle.program_safety.specs.Parts.{HasInstances}
 

@@ -3,8 +3,8 @@ use Rattle.std.proofs.Common.{List, [], ◌∷◌}
 use Rattle.std.specs.List.{AllByRecursion}
 use Rattle.elm_canon.specs.declared.reference.Ref.TheVariants.{Top}
 use Rattle.elm_type.specs.Types.{Leaf, Free, Fixed, variables}
-use Rattle.infer_base.specs.Ready.{IsBelow}
-use Rattle.more_known.proofs.Modules.{same_types}
+use Rattle.infer_steps.specs.Ready.{IsBelow}
+use Rattle.type_items.proofs.Modules.{same_types}
 use Rattle.program_safety.specs.Told.{IsVariable}
 use Rattle.program_safety.proofs.Told.{renamed_instances}
 use Rattle.told_modules.specs.Told.{ModulesAreInferred, FormsHaveInstances}

@@ -6,11 +6,11 @@ use Rattle.elm_canon.specs.declared.reference.Ref.{Ref}
 use Rattle.elm_canon.specs.Tree.{Expr, Is, NameOf, Accessor, Lambda, Apply, Strict, If, Logical, Let, Case, Located}
 use Rattle.elm_canon.specs.Tree.{Exprs, NoExpr, MoreExpr, Branches, NoBranch, MoreBranch, Groups, NoGroup, MoreGroup}
 use Rattle.elm_canon.specs.Tree.{Group, Together, Constant, Destructure, Functions, NoFunction, MoreFunction}
-use Rattle.elm_proper.specs.Proper.{Scope, among, with_all, bound_by, all_bound_by, after, group_names, function_names}
-use Rattle.elm_proper.specs.Proper.{AreFresh, Proper, AllProper, ProperBranches, ProperGroups, ProperGroup}
-use Rattle.elm_proper.specs.Proper.{ProperFunctions}
-use Rattle.let_names.specs.Apart.{let_names, inner_names, inner_each, inner_branches, inner_groups, inner_group}
-use Rattle.let_names.specs.Apart.{inner_functions, NamesApart}
+use Rattle.elm_canon.specs.Proper.{Scope, among, with_all, bound_by, all_bound_by, after, group_names, function_names}
+use Rattle.elm_canon.specs.Proper.{AreFresh, Proper, AllProper, ProperBranches, ProperGroups, ProperGroup}
+use Rattle.elm_canon.specs.Proper.{ProperFunctions}
+use Rattle.elm_canon.specs.Apart.{let_names, inner_names, inner_each, inner_branches, inner_groups, inner_group}
+use Rattle.elm_canon.specs.Apart.{inner_functions, NamesApart}
 use Rattle.type_items.specs.Expressions.{definitions, group_definitions}
 use Rattle.type_items.specs.Uses.{used, used_each, used_branches, used_groups, used_group, used_functions}
 use Rattle.typed_values.specs.Simple.{Without, defines, AreApart, UseEarlier}

@@ -5,8 +5,8 @@ use Rattle.elm_canon.specs.Names.{same_ref}
 use Rattle.elm_canon.specs.declared.reference.Ref.{Ref}
 use Rattle.elm_canon.specs.Tree.{Group, Together, Constant, Destructure, Functions, NoFunction, MoreFunction}
 use Rattle.elm_canon.specs.Tree.{Declaration, Given, Define}
-use Rattle.elm_proper.specs.Proper.{Scope, among, with_all, AreFresh, function_names, group_names, ProperGroup}
-use Rattle.elm_proper.specs.Declarations.{ProperDeclarations, is_destructuring}
+use Rattle.elm_canon.specs.Proper.{Scope, among, with_all, AreFresh, function_names, group_names, ProperGroup}
+use Rattle.elm_canon.specs.Declarations.{ProperDeclarations, is_destructuring}
 use Rattle.type_items.specs.Definitions.{Definition}
 use Rattle.type_items.specs.Expressions.{definitions, group_definitions, function_definitions}
 use Rattle.typed_values.specs.Simple.{Without, defines, AreApart}

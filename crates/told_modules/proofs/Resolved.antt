@@ -8,19 +8,19 @@ use Rattle.elm_canon.specs.Tree.{Located}
 use Rattle.elm_canon.specs.Tree.{Exprs, NoExpr, MoreExpr, Branches, NoBranch, MoreBranch, Groups, NoGroup, MoreGroup}
 use Rattle.elm_canon.specs.Tree.{Group, Together, Constant, Destructure, Functions, NoFunction, MoreFunction}
 use Rattle.elm_canon.specs.Tree.{Declaration, Given, Define}
-use Rattle.elm_proper.specs.Proper.{Scope, with_all, bound_by, all_bound_by, after, group_names, function_names}
-use Rattle.elm_proper.specs.Proper.{ProperPattern, ProperPatterns, ProperOp, count_exprs, Proper, AllProper}
-use Rattle.elm_proper.specs.Proper.{ProperBranches, ProperGroups, ProperGroup, ProperFunctions}
-use Rattle.elm_proper.specs.Declarations.{ProperDeclarations}
-use Rattle.canon_mentions.specs.Mentions.{PatternTakes, PatternsTake, OpBuilds}
-use Rattle.port_maps.specs.Obeys.{Obeys, ObeyEach, BranchesObey, BranchesMap, GroupsObey, GroupObeys, FunctionsObey}
-use Rattle.port_maps.specs.Obeys.{DeclarationObeys}
-use Rattle.let_names.specs.Apart.{LetsApart, AllLetsApart, BranchesApart, GroupsApart, GroupApart, FunctionsApart}
+use Rattle.elm_canon.specs.Proper.{Scope, with_all, bound_by, all_bound_by, after, group_names, function_names}
+use Rattle.elm_canon.specs.Proper.{ProperPattern, ProperPatterns, ProperOp, count_exprs, Proper, AllProper}
+use Rattle.elm_canon.specs.Proper.{ProperBranches, ProperGroups, ProperGroup, ProperFunctions}
+use Rattle.elm_canon.specs.Declarations.{ProperDeclarations}
+use Rattle.elm_canon.specs.Mentions.{PatternTakes, PatternsTake, OpBuilds}
+use Rattle.elm_canon.specs.Obeys.{Obeys, ObeyEach, BranchesObey, BranchesMap, GroupsObey, GroupObeys, FunctionsObey}
+use Rattle.elm_canon.specs.Obeys.{DeclarationObeys}
+use Rattle.elm_canon.specs.Apart.{LetsApart, AllLetsApart, BranchesApart, GroupsApart, GroupApart, FunctionsApart}
 use Rattle.typed_values.specs.World.{World, Declares, Makes}
 use Rattle.typed_values.specs.Simple.{IsPattern, ArePatterns, IsOperation, MapsPorts}
 use Rattle.type_safety.specs.Modules.{groups_in}
-use Rattle.pattern_safety.specs.Resolved.{Resolved, ResolvedEach, ResolvedBranches, ResolvedGroups, ResolvedGroup}
-use Rattle.pattern_safety.specs.Resolved.{ResolvedMap, ResolvedFunctions}
+use Rattle.type_safety.specs.Resolved.{Resolved, ResolvedEach, ResolvedBranches, ResolvedGroups, ResolvedGroup}
+use Rattle.type_safety.specs.Resolved.{ResolvedMap, ResolvedFunctions}
 use Rattle.told_modules.specs.Resolved.{PatternHasFields, PatternsHaveFields, OpHasFields, HasFields, EachHasFields}
 use Rattle.told_modules.specs.Resolved.{BranchesHaveFields, GroupsHaveFields, GroupHasFields, FunctionsHaveFields}
 use Rattle.told_modules.specs.Resolved.{DeclarationApart, DeclarationHasFields, ResolvedAreTyped}

@@ -11,10 +11,10 @@ use Rattle.elm_canon.specs.Tree.{Expr, Is, NameOf, Accessor, Lambda, Apply, Stri
 use Rattle.elm_canon.specs.Tree.{Exprs, NoExpr, MoreExpr, Branches, NoBranch, MoreBranch, Groups, NoGroup, MoreGroup}
 use Rattle.elm_canon.specs.Tree.{Group, Together, Constant, Destructure, Functions, NoFunction, MoreFunction}
 use Rattle.elm_canon.specs.Tree.{Declaration, Given, Define}
-use Rattle.elm_proper.specs.Proper.{Scope, among, with_all, bound_by, all_bound_by, locals, after, group_names}
-use Rattle.elm_proper.specs.Proper.{function_names, Proper, AllProper, ProperBranches, ProperGroups, ProperGroup}
-use Rattle.elm_proper.specs.Proper.{ProperFunctions}
-use Rattle.elm_proper.specs.Declarations.{ProperDeclarations}
+use Rattle.elm_canon.specs.Proper.{Scope, among, with_all, bound_by, all_bound_by, locals, after, group_names}
+use Rattle.elm_canon.specs.Proper.{function_names, Proper, AllProper, ProperBranches, ProperGroups, ProperGroup}
+use Rattle.elm_canon.specs.Proper.{ProperFunctions}
+use Rattle.elm_canon.specs.Declarations.{ProperDeclarations}
 use Rattle.type_items.specs.Definitions.{Definition}
 use Rattle.type_items.specs.Expressions.{definitions, group_definitions}
 use Rattle.type_items.specs.Uses.{used, used_each, used_branches, used_groups, used_group, used_functions}
@@ -22,8 +22,8 @@ use Rattle.typed_values.specs.Simple.{Without, defines, UseEarlier}
 use Rattle.typed_values.proofs.Names.{yes_or_no, not_both, same_refs}
 use Rattle.type_safety.specs.Modules.{groups_in, given_in, UseGivenBefore}
 use Rattle.program_safety.specs.Parts.{IsOf, AreSome}
-use Rattle.canon_mentions.specs.Mentions.{anything, IsLocal, Mentions, MentionEach, BranchesMention, GroupsMention}
-use Rattle.canon_mentions.specs.Mentions.{GroupMentions, FunctionsMention, DeclarationMentions}
+use Rattle.elm_canon.specs.Mentions.{anything, IsLocal, Mentions, MentionEach, BranchesMention, GroupsMention}
+use Rattle.elm_canon.specs.Mentions.{GroupMentions, FunctionsMention, DeclarationMentions}
 use Rattle.told_modules.specs.Names.{NamedHaveNames}
 use Rattle.told_modules.proofs.Names.{in_first, off_first, first_in, off_all, defines_either, defined_new, group_named}
 use Rattle.told_modules.proofs.Names.{declared_titled, declared_apart}

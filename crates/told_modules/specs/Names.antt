@@ -4,9 +4,9 @@ use Rattle.std.specs.List.{AllByRecursion}
 use Rattle.elm_canon.specs.Names.{Name}
 use Rattle.elm_canon.specs.declared.reference.Ref.{Ref}
 use Rattle.elm_canon.specs.Tree.{Declaration}
-use Rattle.elm_proper.specs.Proper.{Scope}
-use Rattle.elm_proper.specs.Declarations.{ProperDeclarations}
-use Rattle.canon_mentions.specs.Mentions.{anything, DeclarationsMention}
+use Rattle.elm_canon.specs.Proper.{Scope}
+use Rattle.elm_canon.specs.Declarations.{ProperDeclarations}
+use Rattle.elm_canon.specs.Mentions.{anything, DeclarationsMention}
 use Rattle.type_items.specs.Expressions.{definitions}
 use Rattle.typed_values.specs.Simple.{Without, defines, AreApart, UseEarlier}
 use Rattle.type_safety.specs.Modules.{groups_in, given_in, AreTitled, UseGivenBefore}

@@ -8,14 +8,14 @@ use Rattle.elm_canon.specs.Tree.{Located}
 use Rattle.elm_canon.specs.Tree.{Exprs, NoExpr, MoreExpr, Branches, NoBranch, MoreBranch, Groups, NoGroup, MoreGroup}
 use Rattle.elm_canon.specs.Tree.{Group, Together, Constant, Destructure, Functions, NoFunction, MoreFunction}
 use Rattle.elm_canon.specs.Tree.{Declaration, Given, Define}
-use Rattle.elm_proper.specs.Proper.{Scope}
-use Rattle.elm_proper.specs.Declarations.{ProperDeclarations}
-use Rattle.port_maps.specs.Obeys.{DeclarationObeys}
-use Rattle.let_names.specs.Apart.{GroupApart}
+use Rattle.elm_canon.specs.Proper.{Scope}
+use Rattle.elm_canon.specs.Declarations.{ProperDeclarations}
+use Rattle.elm_canon.specs.Obeys.{DeclarationObeys}
+use Rattle.elm_canon.specs.Apart.{GroupApart}
 use Rattle.typed_values.specs.World.{World, Declares, Makes}
 use Rattle.typed_values.specs.Simple.{IsSome, MapsPorts}
 use Rattle.type_safety.specs.Modules.{groups_in}
-use Rattle.pattern_safety.specs.Resolved.{ResolvedGroups}
+use Rattle.type_safety.specs.Resolved.{ResolvedGroups}
 
 -- each record that a pattern takes apart, or an expression changes, has a field
 abbrev mutual

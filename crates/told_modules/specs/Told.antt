@@ -3,17 +3,17 @@
 use Rattle.std.specs.Prelude.{◌≡◌, [], Some}
 use Rattle.elm_canon.specs.Tree.{Module}
 use Rattle.elm_canon.specs.declared.reference.Ref.{Ref}
-use Rattle.elm_proper.specs.Proper.{Scope}
-use Rattle.elm_proper.specs.Declarations.{ProperDeclarations}
+use Rattle.elm_canon.specs.Proper.{Scope}
+use Rattle.elm_canon.specs.Declarations.{ProperDeclarations}
 use Rattle.elm_type.specs.Types.{Name, Scheme}
 use Rattle.elm_type.specs.Schemes.{rename}
 use Rattle.type_items.specs.Items.{Place}
 use Rattle.type_items.specs.Scopes.{Known}
 use Rattle.type_items.specs.Inferred.{Schemes, Inferred}
 use Rattle.type_items.specs.Expressions.{definitions}
-use Rattle.scheme_order.specs.Order.{scheme_in_order}
-use Rattle.infer_base.specs.Ready.{IsWritten}
-use Rattle.more_known.specs.More.{Grows}
+use Rattle.elm_type.specs.Order.{scheme_in_order}
+use Rattle.infer_steps.specs.Ready.{IsWritten}
+use Rattle.type_items.specs.More.{Grows}
 use Rattle.typed_values.specs.Simple.{AreApart}
 use Rattle.type_safety.specs.Modules.{groups_in, AreTitled}
 use Rattle.program_safety.specs.Parts.{Part, HasInstances}

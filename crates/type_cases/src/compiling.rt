@@ -2,12 +2,12 @@
 
 use crate::telling::{fault_lines, value_lines};
 use canon_env::import::Import;
-use elm_names::name::Name;
+use elm_base::names::Name;
+use import_graph::Module;
 use indexmap::IndexMap;
 use module_compile::compiling::compile;
 use module_compile::made::Made;
-use module_phases::{Imports, Offered};
-use module_walk::Module;
+use module_compile::{Imports, Offered};
 use std::alloc::{AllocError, Global};
 use std::sync::Arc;
 

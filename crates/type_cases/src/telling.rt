@@ -1,7 +1,7 @@
 //! The lines of what a module compiles to.
 
 use elm_base::fault::{Fault, fault_line};
-use elm_type_text::type_text;
+use elm_type::type_text;
 use interface::value::Value;
 use std::alloc::{AllocError, Global};
 

@@ -18,3 +18,34 @@ pub mod Walking
 pub mod Stops
 -- where patterns stop
 pub mod Missing
+pub mod ToldReadingParts
+pub mod Inserting
+pub mod Renamed
+pub mod Values
+pub mod Reached
+pub mod Formed
+pub mod Orders
+pub mod Telling
+pub mod Refits
+pub mod Moments
+pub mod Passing
+pub mod Failing
+pub mod Entering
+pub mod Keeping
+pub mod Escaping
+pub mod Fixing
+pub mod Defining
+pub mod Pairing
+pub mod Explaining
+pub mod Lasting
+pub mod Ending
+-- groups of definitions
+pub mod Grouping
+-- definitions with annotations
+pub mod Closing
+pub mod Finding
+pub mod Turning
+-- where expressions stop
+pub mod Stopping
+-- where operations stop
+pub mod Operating

@@ -5,8 +5,8 @@ use Rattle.elm_canon.specs.Tree.{Pattern, patterns_of}
 use Rattle.type_items.specs.Items.{Place, child, Wanted, at, nonsense}
 use Rattle.type_items.specs.Scopes.{Known}
 use Rattle.type_items.specs.Patterns.{pattern_items, patterns_items}
-use Rattle.type_refusals.specs.Failing.{Fails}
-use Rattle.type_refusals.proofs.Passing.{passes_plain}
+use Rattle.type_constructs.specs.Failing.{Fails}
+use Rattle.type_constructs.proofs.Passing.{passes_plain}
 use Rattle.type_constructs.specs.Regions.{deep}
 use Rattle.type_constructs.specs.Faults.{FailsLiteral, FailsFieldsLack, FailsFields, FailsShape, FailsConstructor, FailsParts, FailsNext, FailsMore, FailsFewer}
 use Rattle.type_constructs.proofs.Spots.{Here, Child, Itself, Below, Tops, Deep, Nowhere, In}

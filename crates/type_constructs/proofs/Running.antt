@@ -8,8 +8,8 @@ use Rattle.type_walks.specs.Walks.{Around, Walk}
 use Rattle.type_walks.proofs.Regions.{either_inside}
 use Rattle.type_walks.proofs.Linking.{left_inside, right_inside, all_live_later}
 use Rattle.type_walks.proofs.Walking.{rests, goes_on, widens, forgets}
-use Rattle.type_refusals.specs.Passing.{Passes, NoSizes}
-use Rattle.type_refusals.proofs.Passing.{passes_plain, passes_on, passes_widely}
+use Rattle.type_constructs.specs.Passing.{Passes, NoSizes}
+use Rattle.type_constructs.proofs.Passing.{passes_plain, passes_on, passes_widely}
 use Rattle.type_constructs.specs.Regions.{deep}
 use Rattle.type_constructs.specs.Stepping.{Step}
 use Rattle.type_constructs.proofs.Spots.{Atom, atom_region, cover, all_off, cover_apart, all_below, cover_inside}

@@ -12,7 +12,7 @@ use Rattle.elm_type.specs.declared.class.Class.{Class}
 use Rattle.type_items.specs.Items.{Place, child, Wanted, at, Item, InClass, class_items, lack_items, kind_items}
 use Rattle.type_items.specs.Scopes.{Known, instance_items}
 use Rattle.type_items.specs.Patterns.{shape, shape_items, declared_items, pattern_items, patterns_items}
-use Rattle.type_refusals.specs.Passing.{NoSizes}
+use Rattle.type_constructs.specs.Passing.{NoSizes}
 
 pub sizes_both : (is js : List Item) → NoSizes is → NoSizes js → NoSizes (is ++ js)
 sizes_both [] js h k = k

@@ -8,9 +8,9 @@ use Rattle.type_walks.specs.Links.{Links}
 use Rattle.type_walks.specs.Walks.{Around, Walk}
 use Rattle.type_walks.proofs.Regions.{none_inside, apart_none}
 use Rattle.type_walks.proofs.Linking.{left_inside, right_inside}
-use Rattle.type_refusals.specs.Passing.{Passes}
-use Rattle.type_refusals.specs.Failing.{Bad, Fails}
-use Rattle.type_refusals.proofs.Failing.{fails_after, fails_earlier}
+use Rattle.type_constructs.specs.Passing.{Passes}
+use Rattle.type_constructs.specs.Failing.{Bad, Fails}
+use Rattle.type_constructs.proofs.Failing.{fails_after, fails_earlier}
 use Rattle.type_constructs.specs.Regions.{deep}
 use Rattle.type_constructs.specs.Stepping.{Step}
 use Rattle.type_constructs.proofs.Spots.{Atom, atom_region, cover, all_off, cover_apart, all_below, cover_inside}

@@ -5,7 +5,7 @@ use Rattle.std.specs.List.{range_with_len}
 use Rattle.std.proofs.lemmas.List.{append-nil, length_push}
 use Rattle.elm_base.specs.declared.position.Pos.{Pos}
 use Rattle.elm_canon.specs.Tree.{Pattern, Expr, Strict, Op, TupleOf, ListOf, Build, RecordOf, Negate, Binary, exprs_of, patterns_of, branches_of}
-use Rattle.elm_proper.specs.Proper.{count_exprs}
+use Rattle.elm_canon.specs.Proper.{count_exprs}
 use Rattle.elm_type.specs.Types.{functions}
 use Rattle.type_items.specs.Items.{Place, child, Wanted, at, children, Item, Same, lack_items, class_items}
 use Rattle.type_items.specs.Scopes.{Scope}

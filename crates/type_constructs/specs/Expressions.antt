@@ -27,7 +27,7 @@ use Rattle.type_store.specs.Store.{Store}
 use Rattle.type_walks.specs.Regions.{none, only, below}
 use Rattle.type_walks.specs.Links.{Links, AreLive, Tells}
 use Rattle.type_walks.specs.Walks.{Around, Walk}
-use Rattle.type_refusals.specs.Passing.{NoSizes}
+use Rattle.type_constructs.specs.Passing.{NoSizes}
 use Rattle.type_constructs.specs.Regions.{deep}
 use Rattle.type_constructs.specs.Binding.{Children, Typed, Shaped, Bound}
 use Rattle.type_constructs.specs.Patterns.{Matched, MatchedEach}

@@ -13,7 +13,7 @@ use Rattle.type_store.specs.Store.{Store}
 use Rattle.type_walks.specs.Regions.{none, below}
 use Rattle.type_walks.specs.Links.{Links}
 use Rattle.type_walks.specs.Walks.{Around, Walk}
-use Rattle.type_refusals.specs.Failing.{Bad, Fails}
+use Rattle.type_constructs.specs.Failing.{Bad, Fails}
 use Rattle.type_constructs.specs.Regions.{deep}
 use Rattle.type_constructs.specs.Binding.{Children, Typed, Shaped, Bound}
 use Rattle.type_constructs.specs.Patterns.{MatchedEach}

@@ -5,7 +5,7 @@ use Rattle.type_store.specs.Store.{Store}
 use Rattle.type_walks.specs.Regions.{Region}
 use Rattle.type_walks.specs.Links.{Links}
 use Rattle.type_walks.specs.Walks.{Around, Walk}
-use Rattle.type_refusals.specs.Passing.{Passes}
+use Rattle.type_constructs.specs.Passing.{Passes}
 
 pub record Step (real : Bool) (a : Around) (R : Region) (items : List Item) (s : Store) (before : Links) (s' : Store)
     (after : Links) : Type 0 where

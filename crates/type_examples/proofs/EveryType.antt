@@ -6,10 +6,10 @@ use Rattle.elm_type.specs.Types.{kind_at}
 use Rattle.elm_type.specs.Classes.{Ground, meets}
 use Rattle.elm_type.specs.declared.class.Class.TheVariants.{Any, Number}
 use Rattle.elm_type.specs.declared.head.Head.TheVariants as head
-use Rattle.elm_type_text.specs.Naming.{candidate}
-use Rattle.elm_type_text.specs.Text.{type_name, text_in}
-use Rattle.ground_types.specs.Ground.{is_ground, value, fits}
-use Rattle.binding_groups.specs.InOrder.{ordered_groups}
+use Rattle.elm_type.specs.Naming.{candidate}
+use Rattle.elm_type.specs.Text.{type_name, text_in}
+use Rattle.elm_type.specs.Ground.{is_ground, value, fits}
+use Rattle.decl_groups.specs.InOrder.{ordered_groups}
 use Rattle.type_items.specs.Items.{Place, Wanted, at, Item, Same, InClass, Keeps, Small}
 use Rattle.type_items.specs.Solutions.{Solution}
 use Rattle.type_items.specs.Principal.{HasType, IsInstance, IsPrincipal}

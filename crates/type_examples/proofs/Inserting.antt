@@ -10,7 +10,7 @@ use Rattle.std.proofs.lemmas.Slice.Eq.{bytes_eq-Decides}
 use Rattle.elm_type.specs.Types.{Name, Fields, End, Made, Record, NoField, MoreField, Rigid}
 use Rattle.elm_type.specs.Classes.{Ground}
 use Rattle.elm_type.specs.Rows.{name_lt, has_field, insert_field, extend, is_under, rise}
-use Rattle.ground_types.specs.Ground.{lacks, is_ground, end_lacks, end_lacks_each, fields_ground}
+use Rattle.elm_type.specs.Ground.{lacks, is_ground, end_lacks, end_lacks_each, fields_ground}
 use Rattle.type_examples.proofs.Values.{both, first_true, second_true}
 
 -- of two names that are not the same, one is less

@@ -4,9 +4,9 @@ use Rattle.std.specs.Fmt.{digits}
 use Rattle.elm_type.specs.Types.{function, int_type, variable, Free, Fixed, Scheme}
 use Rattle.elm_type.specs.Classes.{Ground}
 use Rattle.elm_type.specs.declared.class.Class.TheVariants.{Number}
-use Rattle.elm_type_text.specs.Naming.{candidate}
-use Rattle.elm_type_text.specs.Text.{type_name, text_in}
-use Rattle.binding_groups.specs.InOrder.{ordered_groups}
+use Rattle.elm_type.specs.Naming.{candidate}
+use Rattle.elm_type.specs.Text.{type_name, text_in}
+use Rattle.decl_groups.specs.InOrder.{ordered_groups}
 use Rattle.type_items.specs.Items.{Wanted}
 use Rattle.type_items.specs.Solutions.{Solution}
 use Rattle.type_items.specs.Principal.{unscoped, HasType, IsInstance, IsPrincipal}

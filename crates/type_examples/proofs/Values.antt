@@ -9,7 +9,7 @@ use Rattle.elm_type.specs.Classes.{Ground, meets, is_below}
 use Rattle.elm_type.specs.Rows.{extend}
 use Rattle.elm_type.specs.declared.class.Class.{Class}
 use Rattle.elm_type.specs.declared.class.Class.TheVariants.{Any, Number, Comparable, Appendable, CompAppend}
-use Rattle.ground_types.specs.Ground.{is_ground}
+use Rattle.elm_type.specs.Ground.{is_ground}
 use Rattle.type_items.specs.Items.{Place, Wanted, Item, Small, asks_size}
 use Rattle.type_items.specs.Solutions.{Values}
 use Rattle.type_items.specs.Faults.{IsSmall}

@@ -3,7 +3,7 @@ use Rattle.std.specs.Prelude.{◌≡◌, ℕ, [], Some, codes}
 use Rattle.elm_base.specs.declared.fault.Code.TheVariants.{TypeMismatch}
 use Rattle.elm_canon.specs.Tree.{Module}
 use Rattle.elm_type.specs.Types.{Name, Scheme}
-use Rattle.elm_type_text.specs.Text.{type_text}
+use Rattle.elm_type.specs.Text.{type_text}
 use Rattle.type_items.specs.Modules.{module_items}
 use Rattle.type_items.specs.Faults.{FirstBad}
 use Rattle.type_items.specs.Inferred.{Inferred}

@@ -15,7 +15,7 @@ use Rattle.elm_type.specs.Rows.{insert_field, extend}
 use Rattle.elm_type.specs.declared.class.Class.{Class}
 use Rattle.elm_type.specs.declared.class.Class.TheVariants.{Any, Number, Comparable, Appendable, CompAppend}
 use Rattle.elm_type.specs.declared.head.Head.TheVariants as head
-use Rattle.ground_types.specs.Ground.{contains}
+use Rattle.elm_type.specs.Ground.{contains}
 use Rattle.type_items.specs.Items.{Place, Wanted, at, Item, kind_items}
 use Rattle.type_items.specs.Scopes.{Constants}
 

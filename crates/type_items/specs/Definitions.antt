@@ -14,9 +14,9 @@ use Rattle.elm_base.specs.declared.position.Pos.{Pos}
 use Rattle.elm_canon.specs.Names.{same_ref}
 use Rattle.elm_canon.specs.declared.reference.Ref.{Ref}
 use Rattle.elm_canon.specs.Tree.{Annotation}
-use Rattle.elm_proper.specs.Proper.{among}
+use Rattle.elm_canon.specs.Proper.{among}
 use Rattle.elm_type.specs.Types.{int_type, variable, Rigid, Fixed, Kind}
-use Rattle.binding_groups.specs.InOrder.{ordered_groups}
+use Rattle.decl_groups.specs.InOrder.{ordered_groups}
 use Rattle.type_items.specs.Items.{Place, child, Wanted, at, Item, Keeps, Small, copied, kind_items}
 use Rattle.type_items.specs.Scopes.{Entry, Instance, General, Known, Entries, Constants, Scope, with_names}
 use Rattle.type_items.specs.Scopes.{with_constants, one_types}

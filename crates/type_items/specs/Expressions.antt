@@ -11,7 +11,7 @@ use Rattle.elm_canon.specs.Tree.{Logical}
 use Rattle.elm_canon.specs.Tree.{Let, Case, Located, Exprs, NoExpr, MoreExpr, Branches, NoBranch, MoreBranch, Groups}
 use Rattle.elm_canon.specs.Tree.{NoGroup, MoreGroup, Group, Together, Constant, Destructure, Functions, NoFunction}
 use Rattle.elm_canon.specs.Tree.{MoreFunction}
-use Rattle.elm_proper.specs.Proper.{bound_by, count_exprs}
+use Rattle.elm_canon.specs.Proper.{bound_by, count_exprs}
 use Rattle.elm_type.specs.Types.{function, functions, char_type, string_type, bool_type}
 use Rattle.elm_type.specs.declared.class.Class.TheVariants.{Number}
 use Rattle.type_items.specs.Items.{Place, child, Wanted, at, children, Item, Same, InClass, Lacks, nonsense}

@@ -5,10 +5,10 @@ use Rattle.elm_base.specs.declared.fault.Code.{Code}
 use Rattle.elm_base.specs.declared.fault.Code.TheVariants.{TypeMismatch, TypeTooLarge}
 use Rattle.elm_type.specs.Types.{Name, ElmType, tuple, size, Leaf, Scheme}
 use Rattle.elm_type.specs.Schemes.{rename}
-use Rattle.elm_type_text.specs.Naming.{names_of}
-use Rattle.elm_type_text.specs.Text.{text_in, leaf_name}
-use Rattle.elm_type_text.specs.Used.{stem}
-use Rattle.elm_type_text.specs.declared.frame.Around.TheVariants.{Alone}
+use Rattle.elm_type.specs.Naming.{names_of}
+use Rattle.elm_type.specs.Text.{text_in, leaf_name}
+use Rattle.elm_type.specs.Used.{stem}
+use Rattle.elm_type.specs.declared.frame.Around.TheVariants.{Alone}
 use Rattle.type_items.specs.Items.{Place, Wanted, Item, Same, InClass, Lacks, Keeps, Small, place_of}
 use Rattle.type_items.specs.Solutions.{Solution, Unsolvable}
 use Rattle.type_items.specs.Principal.{IsPrincipal}

@@ -9,7 +9,7 @@ use Rattle.elm_canon.specs.declared.tree.Literal.{Literal}
 use Rattle.elm_canon.specs.declared.tree.Literal.TheVariants as literal
 use Rattle.elm_canon.specs.Tree.{Pattern, Anything, Named, As, Exactly, Construct, FieldsOf, LocatedPattern, Patterns}
 use Rattle.elm_canon.specs.Tree.{NoPattern, MorePattern}
-use Rattle.elm_proper.specs.Proper.{count_of}
+use Rattle.elm_canon.specs.Proper.{count_of}
 use Rattle.elm_type.specs.Types.{Name, Made, NoType, MoreType, tuple, int_type, char_type, string_type, list_type}
 use Rattle.elm_type.specs.Types.{Scheme}
 use Rattle.elm_type.specs.Rows.{sorted, extend}

@@ -5,7 +5,7 @@ use Rattle.elm_type.specs.Types.{Name, ElmType, ElmTypes, Fields, End, Closed, O
 use Rattle.elm_type.specs.Types.{NoField, MoreField, variables, Leaf, Free, Fixed, Kind, Scheme, kind_at}
 use Rattle.elm_type.specs.Classes.{Ground}
 use Rattle.elm_type.specs.Rows.{rise}
-use Rattle.ground_types.specs.Ground.{contains, is_ground, value, fits}
+use Rattle.elm_type.specs.Ground.{contains, is_ground, value, fits}
 use Rattle.type_items.specs.Items.{Place, Wanted, Item, Same, InClass, Lacks, Keeps, Small}
 use Rattle.type_items.specs.Solutions.{Values, Solves, Solution}
 

@@ -3,7 +3,7 @@ use Rattle.std.specs.Prelude.{◌≡◌, ℕ, List, ◌∷◌, ◌++◌, ◌↔�
 use Rattle.std.specs.List.{AllByRecursion}
 use Rattle.elm_type.specs.Types.{variables, Rigid}
 use Rattle.elm_type.specs.Classes.{Ground, meets}
-use Rattle.ground_types.specs.Ground.{is_ground, lacks, value}
+use Rattle.elm_type.specs.Ground.{is_ground, lacks, value}
 use Rattle.type_items.specs.Items.{Place, Item, Same, InClass, Lacks, Keeps, Small, copied}
 
 -- ground types for the variables

@@ -2,3 +2,6 @@
 #![tactic(auto)]
 
 pub mod laws;
+pub mod more_known_laws;
+pub mod principal_forms_laws;
+pub mod principal_types_laws;

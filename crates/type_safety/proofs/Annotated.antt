@@ -15,7 +15,7 @@ use Rattle.elm_type.specs.Types.{Rigid, kind_at, Free, Fixed}
 use Rattle.elm_type.specs.Classes.{Ground, meets}
 use Rattle.elm_type.specs.Rows.{insert_field, insert_all, extend, at_end, substitute, substitute_all, substitute_fields}
 use Rattle.elm_type.specs.declared.head.Head.TheVariants as head
-use Rattle.ground_types.specs.Ground.{contains, fits, lacks_all, value, leaf_value}
+use Rattle.elm_type.specs.Ground.{contains, fits, lacks_all, value, leaf_value}
 use Rattle.type_items.specs.Items.{Place, Wanted, at, Keeps}
 use Rattle.type_items.specs.Scopes.{Constants, Scope, one_types}
 use Rattle.type_items.specs.Annotations.{written, written_all, written_fields, once, variables_of, annotation_type}

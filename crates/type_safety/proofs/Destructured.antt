@@ -9,7 +9,7 @@ use Rattle.elm_canon.specs.declared.reference.Ref.TheVariants.{Local, Top}
 use Rattle.elm_canon.specs.Unions.{alternatives}
 use Rattle.elm_canon.specs.Tree.{Pattern, Anything, Named as NamedPattern, As, Exactly, Construct, FieldsOf, LocatedPattern, Patterns}
 use Rattle.elm_canon.specs.Tree.{NoPattern, MorePattern}
-use Rattle.elm_proper.specs.Proper.{count_of, locals, bound_by, all_bound_by, among}
+use Rattle.elm_canon.specs.Proper.{count_of, locals, bound_by, all_bound_by, among}
 use Rattle.elm_meaning.specs.Values.{Value, IntV, TextV, TagV, RecordV, CloV, KnownV, WireV, Values, NoValue, MoreValue}
 use Rattle.elm_meaning.specs.Values.{FieldValues, Env, Nil, Bind, field_in}
 use Rattle.elm_meaning.specs.Envs.{lookup}

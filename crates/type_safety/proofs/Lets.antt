@@ -5,7 +5,7 @@ use Rattle.std.specs.List.{AllByRecursion, enumerate_from}
 use Rattle.elm_canon.specs.Names.{same_ref}
 use Rattle.elm_canon.specs.declared.reference.Ref.{Ref}
 use Rattle.elm_canon.specs.Tree.{Annotation, Title, Patterns, Expr, Functions, NoFunction, MoreFunction}
-use Rattle.elm_proper.specs.Proper.{among}
+use Rattle.elm_canon.specs.Proper.{among}
 use Rattle.elm_meaning.specs.Values.{Env, BindGroup}
 use Rattle.elm_type.specs.Types.{Scheme}
 use Rattle.elm_type.specs.Classes.{Ground}

@@ -15,3 +15,12 @@ pub mod Progress
 pub mod Modules
 -- an expression worked out
 pub mod SampleExpression
+-- shapes of a type, and patterns that leave nothing out
+pub mod TypedShapes
+pub mod Exhaustive
+-- single steps
+pub mod Sound
+-- some pattern matches
+pub mod Matching
+-- covered sites make resolved expressions simple
+pub mod Covering

@@ -11,7 +11,7 @@ use Rattle.elm_canon.specs.Unions.{Declared}
 use Rattle.elm_canon.specs.Tree.{Pattern, Anything, Named, As, Exactly, Construct, FieldsOf, LocatedPattern, NoPattern, MorePattern, Build}
 use Rattle.elm_canon.specs.Tree.{Expr, Is, NameOf, Accessor, Lambda, Apply, Strict, If, Logical, Let, Case, Located, NoExpr, MoreExpr}
 use Rattle.elm_canon.specs.Tree.{NoBranch, MoreBranch, Functions, NoFunction, MoreFunction}
-use Rattle.elm_proper.specs.Proper.{among}
+use Rattle.elm_canon.specs.Proper.{among}
 use Rattle.elm_meaning.specs.Seen.{same_tag}
 use Rattle.elm_meaning.specs.Values.{Value, TextV, TagV, CloV, Values, NoValue, MoreValue, count_of, Env, Nil, Bind, BindGroup}
 use Rattle.elm_meaning.specs.Envs.{lookup}
@@ -22,7 +22,7 @@ use Rattle.elm_type.specs.Types.{Rigid, variable, function, functions, named, st
 use Rattle.elm_type.specs.Classes.{Ground, meets}
 use Rattle.elm_type.specs.declared.class.Class.{Class}
 use Rattle.elm_type.specs.declared.class.Class.TheVariants.{Any, Number as NumberClass, Comparable, Appendable, CompAppend}
-use Rattle.ground_types.specs.Ground.{lacks_all}
+use Rattle.elm_type.specs.Ground.{lacks_all}
 use Rattle.type_items.specs.Items.{Item, Place, child, Wanted, at, Same}
 use Rattle.type_items.specs.Scopes.{Entry, Mono, Entries, Scope, entry_of, elsewhere, use_items}
 use Rattle.type_items.specs.Patterns.{shape, shape_items, pattern_items, patterns_items, pattern_names, patterns_names, bind_pattern, bind_patterns}
@@ -31,7 +31,7 @@ use Rattle.type_items.specs.Expressions.{items, branch_items}
 use Rattle.type_items.specs.Solutions.{Solves}
 use Rattle.pattern_check.specs.Shapes.{Open, shape_of, written}
 use Rattle.pattern_check.specs.Missing.{missing_shape}
-use Rattle.port_maps.specs.Maps.{bare, bare_pattern, Rebuilds, IsSame, IsAfter}
+use Rattle.elm_canon.specs.Maps.{bare, bare_pattern, Rebuilds, IsSame, IsAfter}
 use Rattle.typed_values.specs.Payloads.{payload_type, sub_type}
 use Rattle.typed_values.specs.Frames.{Frame, of, Stands, Serves}
 use Rattle.typed_values.specs.World.{World, is_ported, Sends, Listens}

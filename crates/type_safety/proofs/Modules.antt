@@ -165,7 +165,7 @@ module _ (w : World) (sound : IsSound w) (known_here : Known) (is_known : KnownI
     ends = subst (λ z. EndsWell (Instances w m.scheme) (known (functions.Given z) NoValue)) (sym m.is) (go m.fields m.types m.counted m.proper m.scheme_is);
   }
     where
-      go : (xs : List Name) (ts : List (ElmType (Leaf ℕ))) → length ts ≡ length xs → Rattle.elm_proper.specs.Spelled.are_fields xs ≡ true → m.scheme.type ≡ functions_to ts (closed (zip xs ts))
+      go : (xs : List Name) (ts : List (ElmType (Leaf ℕ))) → length ts ≡ length xs → Rattle.elm_canon.specs.Spelled.are_fields xs ≡ true → m.scheme.type ≡ functions_to ts (closed (zip xs ts))
           → EndsWell (Instances w m.scheme) (known (functions.Given (RecordMaker xs)) NoValue)
       go [] [] n proper type = λ scope f g choice stands agree chosen. (NoField, sym (ap (substitute (instance_leaf choice g)) type), tt)
       go [] (t ∷ ts) n proper type = absurd (let z : suc (length ts) ≡ 0 = n in omega arith)

@@ -6,12 +6,12 @@ use Rattle.std.specs.List.{Contains, filter_map, cons_option, enumerate_from, li
 use Rattle.elm_canon.specs.Names.{same_ref}
 use Rattle.elm_canon.specs.declared.reference.Ref.{Ref}
 use Rattle.elm_canon.specs.Tree.{Annotation}
-use Rattle.elm_proper.specs.Proper.{among}
+use Rattle.elm_canon.specs.Proper.{among}
 use Rattle.decl_groups.specs.Groups.{list_at, Uses, Reaches, here, through, position_of, IsGroup, IsOrder, all_placed, next}
 use Rattle.decl_groups.proofs.Basics.{no_member, first_member, later_member, member_cases}
-use Rattle.binding_groups.specs.InOrder.{ordered_groups, AreWithin}
-use Rattle.binding_groups.proofs.Standing.{member_append, append_member, front_member}
-use Rattle.group_order.proofs.Ordering.{order_is}
+use Rattle.decl_groups.specs.InOrder.{ordered_groups, AreWithin}
+use Rattle.decl_groups.proofs.Standing.{member_append, append_member, front_member}
+use Rattle.decl_groups.proofs.Ordering.{order_is}
 use Rattle.type_items.specs.Definitions.{Definition, stands_before, insert_definition, in_written_order, is_inferred_for}
 use Rattle.type_items.specs.Definitions.{used_places, all_uses, type_groups}
 use Rattle.typed_values.specs.World.{Among}

@@ -12,7 +12,7 @@ use Rattle.elm_canon.specs.declared.tree.Connective.TheVariants.{And, Or}
 use Rattle.elm_canon.specs.Tree.{Pattern, Patterns, NoPattern, MorePattern, Title, Op, Expr, Is, NameOf, Accessor, Lambda, Apply, Strict}
 use Rattle.elm_canon.specs.Tree.{If, Logical, Let, Case, Located, Exprs, NoExpr, MoreExpr, Branches, NoBranch, MoreBranch, Groups}
 use Rattle.elm_canon.specs.Tree.{NoGroup, MoreGroup, Group, Together, Constant, Destructure, Functions, NoFunction, MoreFunction}
-use Rattle.elm_proper.specs.Proper.{count_exprs}
+use Rattle.elm_canon.specs.Proper.{count_exprs}
 use Rattle.elm_meaning.specs.Functions.{Getter}
 use Rattle.elm_meaning.specs.Values.{Value, IntV, TextV, TagV, RecordV, CloV, KnownV, WireV, MoreValue, Env, Bind}
 use Rattle.elm_meaning.specs.Match.{matches, on_match}
@@ -22,7 +22,7 @@ use Rattle.elm_type.specs.Types.{NoType, MoreType, Made, Record, NoField, MoreFi
 use Rattle.elm_type.specs.Classes.{Ground, meets}
 use Rattle.elm_type.specs.declared.class.Class.TheVariants.{Number}
 use Rattle.elm_type.specs.Rows.{extend, substitute}
-use Rattle.ground_types.specs.Ground.{value, leaf_value}
+use Rattle.elm_type.specs.Ground.{value, leaf_value}
 use Rattle.type_items.specs.Items.{Item, Place, child, Wanted, at, children}
 use Rattle.type_items.specs.Scopes.{Entry, entry_of, Mono, Known, Scope, elsewhere}
 use Rattle.type_items.specs.Patterns.{pattern_items, patterns_items, parameter_types, bind_pattern, bind_patterns}
@@ -40,7 +40,7 @@ use Rattle.typed_values.specs.Exhaustive.{IsPatternOf}
 use Rattle.typed_values.specs.Steps.{IfMatched, StepsKeepTypes}
 use Rattle.typed_values.proofs.Names.{not_both, not_or, all_left, all_right, solves_left, solves_right}
 use Rattle.typed_values.proofs.Envs.{of_functions, fits_known, agree_refl}
-use Rattle.elm_proper.specs.Proper.{bound_by, among}
+use Rattle.elm_canon.specs.Proper.{bound_by, among}
 use Rattle.elm_meaning.specs.Values.{Nil}
 use Rattle.elm_meaning.specs.Envs.{lookup}
 use Rattle.type_items.specs.Patterns.{pattern_names, pattern_start}

@@ -2,7 +2,7 @@
 use Rattle.std.proofs.Common.{[], ◌≡◌, true, Some, refl}
 use Rattle.elm_canon.specs.declared.reference.Ref.{Ref}
 use Rattle.elm_canon.specs.declared.reference.Ref.TheVariants.{Local, Top}
-use Rattle.binding_groups.specs.InOrder.{ordered_groups}
+use Rattle.decl_groups.specs.InOrder.{ordered_groups}
 use Rattle.type_items.specs.Scopes.{Entry, entry_of}
 use Rattle.type_safety.specs.Sample.{sample_scope, sample_hidden, SampleMeets}
 

@@ -7,7 +7,7 @@ use Rattle.std.specs.Option.{option_or}
 use Rattle.elm_canon.specs.Names.{same_ref}
 use Rattle.elm_canon.specs.declared.reference.Ref.{Ref}
 use Rattle.elm_canon.specs.Tree.{Annotation}
-use Rattle.elm_proper.specs.Proper.{among}
+use Rattle.elm_canon.specs.Proper.{among}
 use Rattle.type_items.specs.Items.{Place, child, Wanted, at, Item, copied}
 use Rattle.type_items.specs.Scopes.{Entry, Mono, Instance, General, Known, Entries, Scope, elsewhere, entry_of, with_names}
 use Rattle.type_items.specs.Scopes.{with_constants, one_types}

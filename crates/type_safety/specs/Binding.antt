@@ -2,7 +2,7 @@
 use Rattle.std.specs.Prelude.{◌≡◌, Bool, true}
 use Rattle.elm_canon.specs.declared.reference.Ref.{Ref}
 use Rattle.elm_canon.specs.Tree.{Functions, NoFunction, MoreFunction}
-use Rattle.elm_proper.specs.Proper.{is_function}
+use Rattle.elm_canon.specs.Proper.{is_function}
 use Rattle.elm_meaning.specs.Values.{Env, BindGroup}
 use Rattle.type_items.specs.Scopes.{Scope}
 use Rattle.type_items.specs.Definitions.{with_group}

@@ -2,3 +2,5 @@ pub mod Binding
 pub mod Expressions
 pub mod Modules
 pub mod Sample
+pub mod Matches
+pub mod Resolved

@@ -8,8 +8,8 @@ use Rattle.elm_canon.specs.Tree.{Groups, NoGroup, MoreGroup, Together, Constant,
 use Rattle.elm_canon.specs.Tree.{Maker, RecordMaker, OutPort, InPort, Payload}
 use Rattle.elm_canon.specs.Tree.{Declaration, Given, Define}
 use Rattle.elm_canon.specs.Tree.{Module}
-use Rattle.elm_proper.specs.Proper.{among}
-use Rattle.elm_proper.specs.Spelled.{are_fields}
+use Rattle.elm_canon.specs.Proper.{among}
+use Rattle.elm_canon.specs.Spelled.{are_fields}
 use Rattle.elm_meaning.specs.Values.{Env}
 use Rattle.elm_meaning.specs.Eval.{call_at}
 use Rattle.elm_meaning.specs.Run.{declare_with}

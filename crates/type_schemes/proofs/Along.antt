@@ -8,11 +8,11 @@ use Rattle.elm_type.specs.declared.node.Leaf.TheVariants as leaf
 use Rattle.type_store.specs.Store.{FieldSlot, Cell, Open, Bound, Built, Row, Constant, Store, slot_at, field_slots}
 use Rattle.type_store.specs.Shape.{IsStore, parts_of}
 use Rattle.type_store.specs.Steps.{is_bound}
-use Rattle.type_order.specs.Ends.{end_of}
-use Rattle.type_order.specs.Order.{IsListed, PartsFirst}
-use Rattle.type_reading.specs.Reading.{Graph, read_row, read_cell, read_in}
-use Rattle.type_reading.specs.Bases.{type_in}
-use Rattle.type_reading.proofs.Types.{AreRecord, read_is, last_in, no_fields, row_end_record}
+use Rattle.type_schemes.specs.Ends.{end_of}
+use Rattle.type_schemes.specs.Order.{IsListed, PartsFirst}
+use Rattle.type_schemes.specs.Reading.{Graph, read_row, read_cell, read_in}
+use Rattle.type_schemes.specs.Bases.{type_in}
+use Rattle.type_schemes.proofs.Types.{AreRecord, read_is, last_in, no_fields, row_end_record}
 use Rattle.type_schemes.specs.declared.rows.Onward.TheVariants.{Next, Ends}
 use Rattle.type_schemes.specs.Rows.{CanRead, is_row, IsRecord, width, in_order, Adds, Steps, IsRow}
 use Rattle.type_schemes.proofs.Listed.{listed_inside, listed_free, parts_known, known_first}

@@ -6,12 +6,12 @@ use Rattle.type_store.specs.Store.{Slot, Store, slot_at}
 use Rattle.type_store.specs.declared.slot.Slot as stored
 use Rattle.type_store.specs.declared.slot.Cell as cells
 use Rattle.type_store.specs.View.{cell_view, store_view}
-use Rattle.type_order.proofs.Entering.{slot_is}
+use Rattle.type_schemes.proofs.Entering.{slot_is}
 use Rattle.type_store.specs.Shape.{IsStore, parts_of}
 use Rattle.type_store.specs.Steps.{is_bound}
-use Rattle.type_order.specs.Ends.{end_of}
-use Rattle.type_order.specs.Order.{IsListed, PartsFirst}
-use Rattle.type_reading.proofs.Types.{listed_cases, parts_listed}
+use Rattle.type_schemes.specs.Ends.{end_of}
+use Rattle.type_schemes.specs.Order.{IsListed, PartsFirst}
+use Rattle.type_schemes.proofs.Types.{listed_cases, parts_listed}
 use Rattle.type_schemes.specs.Rows.{CanRead}
 
 module _ (s : Store) where

@@ -12,7 +12,7 @@ use Rattle.elm_type.specs.Rows.{name_lt, insert_field, insert_all}
 use Rattle.type_store.specs.Store.{FieldSlot, field_slots}
 use Rattle.type_store.specs.declared.slot.FieldSlot as stored
 use Rattle.type_store.specs.View.{field_view}
-use Rattle.type_reading.specs.Reading.{Graph, read_row}
+use Rattle.type_schemes.specs.Reading.{Graph, read_row}
 use Rattle.type_schemes.specs.Rows.{put_slot, in_order}
 
 abbrev pub before : stored.FieldSlot → stored.FieldSlot → Bool

@@ -6,11 +6,11 @@ use Rattle.elm_type.specs.Types.{End, Made, Record, NoField, count_fields, Leaf}
 use Rattle.elm_type.specs.Rows.{name_lt, extend}
 use Rattle.elm_type.specs.View.{end_view}
 use Rattle.type_store.specs.Store.{FieldSlot, Cell, Open, Bound, Built, Row, Constant, Store, field_slots}
-use Rattle.type_order.specs.declared.order.Order.{Order}
-use Rattle.type_order.specs.Ends.{end_of}
-use Rattle.type_order.specs.Order.{IsListed}
-use Rattle.type_reading.specs.Reading.{Graph, read_row, read_in}
-use Rattle.type_reading.specs.Bases.{type_in}
+use Rattle.type_schemes.specs.declared.order.Order.{Order}
+use Rattle.type_schemes.specs.Ends.{end_of}
+use Rattle.type_schemes.specs.Order.{IsListed}
+use Rattle.type_schemes.specs.Reading.{Graph, read_row, read_in}
+use Rattle.type_schemes.specs.Bases.{type_in}
 use Rattle.type_schemes.specs.declared.rows.Onward.{Onward}
 use Rattle.type_schemes.specs.declared.rows.Onward.TheVariants.{Next, Ends}
 

@@ -4,7 +4,7 @@ use Rattle.elm_type.specs.Types.{variables, Scheme}
 use Rattle.elm_type.specs.Numbers.{place_in}
 use Rattle.elm_type.specs.Schemes.{in_order, rename}
 use Rattle.type_store.specs.Store.{Store}
-use Rattle.type_reading.specs.Reading.{Graph, Reads}
+use Rattle.type_schemes.specs.Reading.{Graph, Reads}
 
 -- a type whose variables are those of the store, with their kinds
 abbrev pub in_store : Store → Graph → Scheme

@@ -5,7 +5,7 @@ use Rattle.elm_type.specs.Spelling.{spell}
 use Rattle.elm_type.specs.declared.node.Node.{Node}
 use Rattle.elm_type.specs.declared.node.Node.TheVariants as node
 use Rattle.type_store.specs.Store.{Store}
-use Rattle.type_reading.specs.Reading.{Graph}
+use Rattle.type_schemes.specs.Reading.{Graph}
 use Rattle.type_schemes.specs.declared.writing.Task.{Task}
 use Rattle.type_schemes.specs.declared.writing.Task.TheVariants.{Whole, Part}
 use Rattle.type_schemes.specs.declared.writing.Writer.{Writer}

@@ -8,7 +8,7 @@ ghost use Rattle.elm_type.specs.View.{kind_view};
 ghost use Rattle.type_schemes.specs.Seen.{HasSeen};
 ghost use Rattle.type_store.specs.Store.{slot_at};
 
-use elm_names::name::Name;
+use elm_base::names::Name;
 use elm_type::class::Class;
 use elm_type::node::{Leaf, Node};
 use elm_type::scheme::Kind;

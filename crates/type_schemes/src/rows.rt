@@ -4,17 +4,17 @@ ghost use Rattle.std.specs.Prelude.{◌≡◌, ◌++◌, map, true, IfOk, OnOk};
 ghost use Rattle.std.specs.Cmp.Lexicographic.{slice_cmp};
 ghost use Rattle.std.specs.Ordering.{nat_cmp};
 ghost use Rattle.elm_type.specs.View.{end_view};
-ghost use Rattle.type_order.specs.Order.{IsListed, PartsFirst};
-ghost use Rattle.type_reading.specs.Reading.{read_in};
+ghost use Rattle.type_schemes.specs.Order.{IsListed, PartsFirst};
+ghost use Rattle.type_schemes.specs.Reading.{read_in};
 ghost use Rattle.type_schemes.specs.Rows.{IsRecord, IsRow, Steps, in_order, is_row, older_in};
 ghost use Rattle.type_store.specs.Shape.{IsStore};
 ghost use Rattle.type_store.specs.Store.{slot_at};
 ghost use Rattle.type_store.specs.View.{field_view};
 
+use crate::order::Order;
 use elm_type::node::Leaf;
 use std::alloc::{AllocError, Global};
 use std::cmp::Ordering;
-use type_order::order::Order;
 use type_store::slot::{Cell, FieldSlot};
 use type_store::store::Store;
 

@@ -3,16 +3,16 @@
 ghost use Rattle.std.specs.Prelude.{◌≡◌, ◌<◌, length, IfOk};
 ghost use Rattle.elm_type.specs.View.{scheme_view, type_view};
 ghost use Rattle.type_schemes.specs.Schemes.{HasScheme};
-ghost use Rattle.type_reading.specs.Reading.{Reads};
+ghost use Rattle.type_schemes.specs.Reading.{Reads};
 ghost use Rattle.type_store.specs.Shape.{IsStore};
 
 use crate::kinds::kinds;
+use crate::order::parts_first;
 use crate::writing::nodes;
 use elm_type::rename;
 use elm_type::scheme::Scheme;
 use elm_type::ty::Ty;
 use std::alloc::{AllocError, Global};
-use type_order::order::parts_first;
 use type_store::store::Store;
 
 /// The type of the variable `variable`, whose variables are those of the store. It is written out, so the time and the

@@ -3,19 +3,19 @@
 ghost use Rattle.std.specs.Prelude.{◌≡◌, ◌++◌, length, map, reverse, true, IfOk, OnOk};
 ghost use Rattle.elm_type.specs.Spelling.{record_node, spell};
 ghost use Rattle.elm_type.specs.View.{end_view};
-ghost use Rattle.type_order.specs.Order.{IsListed, PartsFirst};
-ghost use Rattle.type_reading.specs.Bases.{type_in};
-ghost use Rattle.type_reading.specs.Reading.{read_in};
+ghost use Rattle.type_schemes.specs.Order.{IsListed, PartsFirst};
+ghost use Rattle.type_schemes.specs.Bases.{type_in};
+ghost use Rattle.type_schemes.specs.Reading.{read_in};
 ghost use Rattle.type_schemes.specs.Rows.{CanRead, is_row, older_in};
 ghost use Rattle.type_schemes.specs.Tasks.{Writes, task_nodes, task_variable};
 ghost use Rattle.type_schemes.specs.declared.writing.Task.TheVariants as task;
 ghost use Rattle.type_store.specs.Shape.{IsStore};
 ghost use Rattle.type_store.specs.Store.{slot_at};
 
+use crate::order::Order;
 use crate::rows::{Gathered, gather};
 use elm_type::node::{Leaf, Node};
 use std::alloc::{AllocError, Global};
-use type_order::order::Order;
 use type_store::slot::{Cell, FieldSlot};
 use type_store::store::Store;
 

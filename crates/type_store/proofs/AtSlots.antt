@@ -3,7 +3,7 @@ use Rattle.std.proofs.Common.{◌≡◌, ℕ, ◌<◌, List, [], ◌∷◌, ◌+
 use Rattle.elm_type.specs.Types.{Name}
 use Rattle.elm_type.specs.Classes.{meet, is_below}
 use Rattle.elm_type.specs.declared.class.Class.{Class}
-use Rattle.ground_types.specs.Ground.{contains}
+use Rattle.elm_type.specs.Ground.{contains}
 use Rattle.type_store.specs.Store.{Slot, Store, slot_at}
 use Rattle.type_store.specs.Solutions.{Ask, InClass, Lacks, Clash}
 use Rattle.type_store.specs.Steps.{IsGraph, Stepped, Pushed, class_asks, lack_asks, with_kind}

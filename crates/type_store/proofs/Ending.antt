@@ -9,7 +9,7 @@ use Rattle.type_store.specs.Shape.{Ascending, NoneIn, IsCell, parts_of}
 use Rattle.type_store.specs.Steps.{AskInside, IsGraph, KeepsDepths, kind_asks, rest_asks, put, is_bound, is_row}
 use Rattle.type_store.specs.Spreading.{EachSpread}
 use Rattle.type_store.specs.Ends.{Turns, Rests, Ended, NoEnds, IsRest, is_open}
-use Rattle.ground_types.specs.Ground.{contains}
+use Rattle.elm_type.specs.Ground.{contains}
 use Rattle.type_store.specs.declared.slot.FieldSlot as stored_field
 use Rattle.type_store.specs.View.{field_view}
 use Rattle.type_store.proofs.Turns.{Which, Yes, Not, which, slot_same, slot_pushed, slot_before, slot_other, all_left, all_right, lacks_to_asks}

@@ -5,7 +5,7 @@ use Rattle.std.proofs.lemmas.Bool.{cases_lt}
 use Rattle.std.proofs.lemmas.List.{length_push, append-nil, append_assoc}
 use Rattle.std.proofs.lemmas.List.Elements.{Contains-append_left}
 use Rattle.elm_type.specs.Classes.{Ground}
-use Rattle.ground_types.specs.Ground.{is_ground}
+use Rattle.elm_type.specs.Ground.{is_ground}
 use Rattle.type_store.specs.Store.{Cell, Slot, Store, slot_at}
 use Rattle.type_store.specs.Shape.{IsStore, parts_of}
 use Rattle.type_store.specs.Solutions.{Values, Says, Meets, Renames, constant_of, constants_of, Fit}

@@ -9,7 +9,7 @@ use Rattle.std.proofs.lemmas.Map.Keys.{IsDistinct-cons, IsDistinct-from_apart}
 use Rattle.std.proofs.lemmas.Map.Steps.{length-le_from_distinct_below}
 use Rattle.std.proofs.lemmas.List.Elements.{All-head, All-tail}
 use Rattle.elm_type.specs.Types.{Name}
-use Rattle.ground_types.specs.Ground.{contains}
+use Rattle.elm_type.specs.Ground.{contains}
 use Rattle.type_store.specs.Store.{FieldSlot, Cell, Row, Slot, Store, slot_at, field_names, field_slots, end_slots}
 use Rattle.type_store.specs.Shape.{Ascending, NoneIn, IsCell, parts_of}
 use Rattle.type_store.specs.Steps.{Interleaves, Neither, First, Second, Merged, Gathers, Ends, Follows, Takes, Leads, Here, Through, IsGraph, RowEnds, NamedTwice, RowTaken, GathersTwice, GathersAll, is_row}

@@ -8,7 +8,7 @@ use Rattle.elm_type.specs.Classes.{meet, is_below, is_any, asks, meets}
 use Rattle.elm_type.specs.declared.class.Class.{Class}
 use Rattle.elm_type.specs.declared.demands.Demand.{Demand}
 use Rattle.elm_type.specs.declared.demands.Demand.TheVariants.{Never, Always, OfParts}
-use Rattle.ground_types.specs.Ground.{contains, lacks, lacks_all}
+use Rattle.elm_type.specs.Ground.{contains, lacks, lacks_all}
 use Rattle.type_store.specs.Store.{FieldSlot, Cell, Open, Bound, Built, Row, Constant, Slot, Store, slot_at, field_names, field_slots, end_slots}
 use Rattle.type_store.specs.Solutions.{Says, Ask, InClass, Lacks, MeetsAsk, Becomes, Clash}
 use Rattle.type_store.specs.Shape.{IsCell, parts_of}

@@ -10,7 +10,7 @@ use Rattle.elm_type.specs.Types.{Name, Kind, any_kind}
 use Rattle.elm_type.specs.Classes.{is_below}
 use Rattle.elm_type.specs.declared.class.Class.{Class}
 use Rattle.elm_type.specs.declared.class.Class.TheVariants.{Any, Number, Comparable, Appendable, CompAppend}
-use Rattle.ground_types.specs.Ground.{contains}
+use Rattle.elm_type.specs.Ground.{contains}
 use Rattle.type_store.specs.Store.{Cell, Open, Bound, Built, Row, Constant, Slot, Store, slot_at, field_names}
 use Rattle.type_store.specs.Solutions.{Ask, Same, InClass, Lacks}
 use Rattle.type_store.specs.Steps.{KeepsDepths, kind_asks, put}

@@ -12,7 +12,7 @@ use Rattle.elm_type.specs.declared.demands.Demand.{Demand}
 use Rattle.elm_type.specs.declared.demands.Demand.TheVariants.{Never, OfParts}
 use Rattle.elm_type.specs.declared.head.Head.{Head}
 use Rattle.elm_type.proofs.Meeting.{meets_both}
-use Rattle.ground_types.specs.Ground.{contains, lacks, lacks_all, fits}
+use Rattle.elm_type.specs.Ground.{contains, lacks, lacks_all, fits}
 use Rattle.type_store.specs.Store.{FieldSlot, Built, Row, Constant, Store, slot_at, field_names}
 use Rattle.type_store.specs.Solutions.{Values, Says, Meets, Fit, Ask, InClass, Lacks, MeetsAsk, Becomes, Clash, row_value, rest_value}
 use Rattle.type_store.specs.Steps.{Leads, part_asks, with_kind, with_depth}

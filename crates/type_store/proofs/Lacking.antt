@@ -7,7 +7,7 @@ use Rattle.std.proofs.lemmas.List.Elements.{All-head, All-tail, All-cons, All-ni
 use Rattle.elm_type.specs.Types.{Name, Rigid, End, ElmType, Fields, Closed, Made, Record, NoField, MoreField, variable}
 use Rattle.elm_type.specs.Classes.{Ground}
 use Rattle.elm_type.specs.Rows.{name_lt, insert_field, insert_all, extend, has_field, rise}
-use Rattle.ground_types.specs.Ground.{contains, lacks, lacks_all, end_lacks, end_lacks_each, is_ground, fields_ground}
+use Rattle.elm_type.specs.Ground.{contains, lacks, lacks_all, end_lacks, end_lacks_each, is_ground, fields_ground}
 use Rattle.type_store.specs.Shape.{AllIn, NoneIn}
 use Rattle.type_store.proofs.Names.{same_name, equal_itself}
 use Rattle.type_store.proofs.Rows.{insert_after, insert_before}

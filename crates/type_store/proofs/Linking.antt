@@ -6,7 +6,7 @@ use Rattle.std.specs.Str.{bytes_eq}
 use Rattle.std.proofs.lemmas.List.{append_assoc, append-nil, take-append-drop}
 use Rattle.std.proofs.lemmas.List.Elements.{All-head, All-tail, All-cons, All-nil, All-weaker, All-append}
 use Rattle.elm_type.specs.Types.{Name}
-use Rattle.ground_types.specs.Ground.{contains}
+use Rattle.elm_type.specs.Ground.{contains}
 use Rattle.type_store.specs.Store.{FieldSlot, Cell, Bound, Row, Slot, Store, slot_at, field_names, field_slots}
 use Rattle.type_store.specs.Store.{end_slots}
 use Rattle.type_store.specs.Shape.{Ascending, NoneIn, IsCell, parts_of}

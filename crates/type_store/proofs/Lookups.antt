@@ -3,7 +3,7 @@ use Rattle.std.proofs.Common.{◌≡◌, ℕ, zero, suc, ◌+◌, ◌<◌, List,
 use Rattle.std.specs.Prelude.{◌||◌}
 use Rattle.std.specs.Str.{bytes_eq}
 use Rattle.elm_type.specs.Types.{Name}
-use Rattle.ground_types.specs.Ground.{contains}
+use Rattle.elm_type.specs.Ground.{contains}
 use Rattle.type_store.specs.Store.{field_names}
 use Rattle.type_store.specs.declared.slot.FieldSlot.{FieldSlot}
 use Rattle.type_store.specs.View.{field_view}

@@ -6,7 +6,7 @@ use Rattle.std.proofs.lemmas.Bool.{cases_lt}
 use Rattle.std.proofs.lemmas.List.{length_push, length-append, take_at, take-map}
 use Rattle.std.proofs.lemmas.List.Elements.{All-weaker, All-nil, All-cons, All-head, All-tail, All-get_or}
 use Rattle.elm_type.specs.Types.{Name, any_kind}
-use Rattle.ground_types.specs.Ground.{contains}
+use Rattle.elm_type.specs.Ground.{contains}
 use Rattle.type_store.specs.declared.slot.Slot as kept
 use Rattle.type_store.specs.View.{slot_view, store_view}
 use Rattle.type_store.proofs.Undoing.{length_view}

@@ -7,7 +7,7 @@ use Rattle.std.proofs.lemmas.List.Elements.{All-head, All-tail}
 use Rattle.elm_type.specs.Types.{Made, MoreType, MoreField, types_of, variable}
 use Rattle.elm_type.specs.Classes.{Ground}
 use Rattle.elm_type.specs.Rows.{extend}
-use Rattle.ground_types.specs.Ground.{lacks_all, is_ground}
+use Rattle.elm_type.specs.Ground.{lacks_all, is_ground}
 use Rattle.type_store.specs.Store.{FieldSlot, Cell, Open, Bound, Built, Row, Constant, Slot, Store, slot_at, field_names, field_slots, end_slots}
 use Rattle.type_store.specs.Solutions.{Values, Says, Meets, constant_of, constants_of, Fit, AgreeBelow, row_value, rest_value}
 use Rattle.type_store.specs.Shape.{parts_of}

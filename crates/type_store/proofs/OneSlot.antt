@@ -6,7 +6,7 @@ use Rattle.elm_type.specs.Types.{ElmTypes, Made, Record, MoreType, Closed, Over,
 use Rattle.elm_type.specs.Classes.{Ground}
 use Rattle.elm_type.specs.Rows.{extend, insert_all, field_type}
 use Rattle.elm_type.specs.declared.head.Head.{Head}
-use Rattle.ground_types.specs.Ground.{lacks_all, is_ground}
+use Rattle.elm_type.specs.Ground.{lacks_all, is_ground}
 use Rattle.type_store.specs.Store.{FieldSlot, Cell, Open, Bound, Built, Row, Constant, Slot, Store, slot_at, field_names}
 use Rattle.type_store.specs.Solutions.{Values, Says, Meets, constant_of, Fit, Same, MeetsAsk, Becomes, Clash, row_value, rest_value}
 use Rattle.type_store.specs.Steps.{kind_asks, put, sames, Leads, Here, Through}

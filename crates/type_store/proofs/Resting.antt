@@ -7,7 +7,7 @@ use Rattle.std.proofs.lemmas.List.{length_push}
 use Rattle.std.proofs.lemmas.List.Elements.{All-nil, All-from_get_or, Contains-get_or, Contains-append_left, Contains-append_right, Contains-append_cases, Contains-push}
 use Rattle.elm_type.specs.Types.{Rigid, Made, types_of}
 use Rattle.elm_type.specs.Classes.{Ground}
-use Rattle.ground_types.specs.Ground.{is_ground}
+use Rattle.elm_type.specs.Ground.{is_ground}
 use Rattle.type_store.specs.Store.{FieldSlot, Cell, Open, Bound, Built, Row, Constant, Slot, Store, slot_at, field_slots, field_names, end_slots}
 use Rattle.type_store.specs.Solutions.{Values, Fit, Says, Ask, MeetsAsk, Becomes, row_value, rest_value, constant_of, constants_of}
 use Rattle.type_store.specs.Shape.{Ascending, IsCell, Once, parts_of}

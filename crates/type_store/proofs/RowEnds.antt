@@ -7,7 +7,7 @@ use Rattle.elm_type.specs.Types.{types_of, Name, Made, Record, Closed, Over, NoF
 use Rattle.elm_type.specs.Classes.{Ground}
 use Rattle.elm_type.specs.declared.head.Head.{Head}
 use Rattle.elm_type.specs.Rows.{extend, has_field}
-use Rattle.ground_types.specs.Ground.{contains, lacks, lacks_all, end_lacks}
+use Rattle.elm_type.specs.Ground.{contains, lacks, lacks_all, end_lacks}
 use Rattle.type_store.specs.Store.{FieldSlot, Cell, Built, Open, Bound, Row, Constant, Slot, Store, slot_at, field_names, field_slots}
 use Rattle.type_store.specs.Solutions.{Values, Says, constant_of, Fit, Ask, Same, MeetsAsk, Becomes, Clash, row_value, rest_value}
 use Rattle.type_store.specs.Shape.{Ascending, NoneIn}

@@ -6,7 +6,7 @@ use Rattle.std.specs.Str.{bytes_eq}
 use Rattle.elm_type.specs.Types.{Name, End, Fields, Made, Record, NoField, MoreField, Rigid}
 use Rattle.elm_type.specs.Classes.{Ground}
 use Rattle.elm_type.specs.Rows.{name_lt, insert_field, insert_all, extend, field_type, has_field, is_under, rise}
-use Rattle.ground_types.specs.Ground.{contains, lacks, lacks_all, end_lacks, end_lacks_each, is_ground, fields_ground}
+use Rattle.elm_type.specs.Ground.{contains, lacks, lacks_all, end_lacks, end_lacks_each, is_ground, fields_ground}
 use Rattle.type_store.specs.Store.{FieldSlot, field_names, field_slots}
 use Rattle.type_store.specs.Solutions.{Values, Same, MeetsAsk, row_value}
 use Rattle.type_store.specs.Shape.{Ascending, NoneIn}

@@ -3,7 +3,7 @@ use Rattle.std.proofs.Common.{◌≡◌, ℕ, ◌<◌, List, [], ◌∷◌, ◌+
 use Rattle.std.specs.List.{All, Contains}
 use Rattle.std.proofs.lemmas.List.Elements.{All-cons, All-nil, Contains-append_left, Contains-append_right, Contains-append_cases}
 use Rattle.elm_type.specs.Types.{Name, any_kind}
-use Rattle.ground_types.specs.Ground.{contains}
+use Rattle.elm_type.specs.Ground.{contains}
 use Rattle.type_store.specs.Store.{FieldSlot, Cell, Row, Store, slot_at, field_names}
 use Rattle.type_store.specs.Solutions.{Ask, InClass, Lacks}
 use Rattle.type_store.specs.Shape.{NoneIn}

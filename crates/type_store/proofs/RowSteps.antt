@@ -3,7 +3,7 @@ use Rattle.std.proofs.Common.{◌≡◌, ℕ, List, true, false, Option, Some, N
 use Rattle.elm_type.specs.Types.{Name}
 use Rattle.elm_type.specs.Classes.{Ground}
 use Rattle.elm_type.specs.Rows.{extend, has_field}
-use Rattle.ground_types.specs.Ground.{contains, lacks, lacks_all, is_ground}
+use Rattle.elm_type.specs.Ground.{contains, lacks, lacks_all, is_ground}
 use Rattle.type_store.specs.Store.{FieldSlot, Bound, Row, Store, slot_at, field_names}
 use Rattle.type_store.specs.Solutions.{Values, Says, Fit, row_value, rest_value}
 use Rattle.type_store.specs.Shape.{Ascending}

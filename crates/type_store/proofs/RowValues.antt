@@ -6,7 +6,7 @@ use Rattle.std.proofs.lemmas.List.Elements.{All-head, All-tail}
 use Rattle.elm_type.specs.Types.{Name, MoreField}
 use Rattle.elm_type.specs.Classes.{Ground}
 use Rattle.elm_type.specs.Rows.{name_lt, has_field, rise, is_under}
-use Rattle.ground_types.specs.Ground.{contains, lacks, lacks_all, is_ground, fields_ground}
+use Rattle.elm_type.specs.Ground.{contains, lacks, lacks_all, is_ground, fields_ground}
 use Rattle.type_store.specs.Store.{FieldSlot, field_names, field_slots}
 use Rattle.type_store.specs.Solutions.{row_value}
 use Rattle.type_store.specs.Shape.{Ascending}

@@ -7,7 +7,7 @@ use Rattle.std.proofs.lemmas.List.Elements.{All-weaker, All-nil, All-cons, All-h
 use Rattle.elm_type.specs.Types.{Name, any_kind}
 use Rattle.elm_type.specs.Classes.{Ground}
 use Rattle.elm_type.specs.Rows.{extend}
-use Rattle.ground_types.specs.Ground.{contains, lacks_all, is_ground}
+use Rattle.elm_type.specs.Ground.{contains, lacks_all, is_ground}
 use Rattle.type_store.specs.Store.{FieldSlot, Open, Row, Slot, Store, slot_at, field_names, field_slots, end_slots}
 use Rattle.type_store.specs.Shape.{Ascending, IsCell, IsStore, Ranked, NoneIn, parts_of}
 use Rattle.type_store.specs.Solutions.{Values, Says, Meets, Renames, constant_of, constants_of, Fit, Ask, Lacks, MeetsAsk, Becomes, Clash, row_value, rest_value}

@@ -5,7 +5,7 @@ use Rattle.std.specs.Str.{bytes_eq}
 use Rattle.elm_type.specs.Types.{Name, End, Closed, ElmType, Fields, Made, Record, NoField, MoreField, Rigid}
 use Rattle.elm_type.specs.Classes.{Ground}
 use Rattle.elm_type.specs.Rows.{name_lt, insert_field, insert_all, extend, field_type, has_field, is_under, rise}
-use Rattle.ground_types.specs.Ground.{lacks, end_lacks, end_lacks_each, is_ground, fields_ground}
+use Rattle.elm_type.specs.Ground.{lacks, end_lacks, end_lacks_each, is_ground, fields_ground}
 use Rattle.type_store.proofs.Names.{lt_trans, lt_back, lt_itself, lt_apart, same_name, equal_itself, Compared, Below, Equals, Above, compared}
 use Rattle.type_store.proofs.Rows.{insert_after, insert_before, insert_swap, extend_none}
 

@@ -8,7 +8,7 @@ use Rattle.elm_type.specs.Classes.{is_below, asks}
 use Rattle.elm_type.specs.declared.class.Class.{Class}
 use Rattle.elm_type.specs.declared.demands.Demand.{Demand}
 use Rattle.elm_type.specs.declared.demands.Demand.TheVariants.{Never, Always, OfParts}
-use Rattle.ground_types.specs.Ground.{contains}
+use Rattle.elm_type.specs.Ground.{contains}
 use Rattle.type_store.specs.Store.{Cell, Open, Bound, Built, Row, Constant, Slot, Store, slot_at, field_names}
 use Rattle.type_store.specs.Shape.{Demanded, Spread, IsStore, Once, parts_of}
 use Rattle.type_store.specs.Solutions.{Ask, MeetsAsk}

@@ -10,7 +10,7 @@ use Rattle.elm_type.specs.declared.class.Class.{Class}
 use Rattle.elm_type.specs.declared.head.Head.{Head}
 use Rattle.elm_type.specs.declared.demands.Demand.{Demand}
 use Rattle.elm_type.specs.declared.demands.Demand.TheVariants.{Never, Always, OfParts}
-use Rattle.ground_types.specs.Ground.{contains, lacks, lacks_all, is_ground, are_ground, EachKindFits}
+use Rattle.elm_type.specs.Ground.{contains, lacks, lacks_all, is_ground, are_ground, EachKindFits}
 use Rattle.type_store.specs.Store.{FieldSlot, Cell, Open, Bound, Built, Row, Constant, Slot, Store, slot_at, field_slots, field_names, end_slots}
 use Rattle.type_store.specs.Shape.{parts_of, Ascending, IsCell, AllIn, NoneIn, Demanded, Spread, IsStore}
 use Rattle.type_store.specs.Solutions.{row_value, rest_value, Says, Meets, constants_of, Renames, CanFit}

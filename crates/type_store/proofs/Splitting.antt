@@ -10,7 +10,7 @@ use Rattle.std.proofs.lemmas.List.{append_assoc, append-nil, drop_more, drop_all
 use Rattle.std.proofs.lemmas.List.Elements.{All-head, All-tail, All-cons, All-nil, All-weaker}
 use Rattle.elm_type.specs.Types.{Name}
 use Rattle.elm_type.specs.Rows.{name_lt}
-use Rattle.ground_types.specs.Ground.{contains}
+use Rattle.elm_type.specs.Ground.{contains}
 use Rattle.type_store.specs.Store.{FieldSlot, field_names}
 use Rattle.type_store.specs.Shape.{Ascending, NoneIn}
 use Rattle.type_store.specs.Steps.{Interleaves, Neither, First, Second, Merged, Merges, Split, Turned}

@@ -7,7 +7,7 @@ use Rattle.std.proofs.lemmas.List.{get_or-set_same, get_or-set_other, get_or_app
 use Rattle.std.proofs.lemmas.List.Elements.{All-head, All-tail, All-cons, All-nil, All-append, Contains-append_left, Contains-append_right, Contains-append_cases}
 use Rattle.elm_type.specs.Types.{Name, Made, Record, Closed, Over, NoField, MoreField, Rigid, Kind, any_kind}
 use Rattle.elm_type.specs.Classes.{Ground, meets}
-use Rattle.ground_types.specs.Ground.{lacks, lacks_all, is_ground, fits}
+use Rattle.elm_type.specs.Ground.{lacks, lacks_all, is_ground, fits}
 use Rattle.type_store.specs.Store.{Slot, Store, slot_at, open_slot}
 use Rattle.type_store.specs.Solutions.{Values, Meets, constant_of, constants_of, Renames, Fit, Ask, Same, InClass, Lacks, MeetsAsk, AgreeBelow, Becomes, Clash}
 use Rattle.type_store.specs.Steps.{AskInside, kind_asks}

@@ -5,7 +5,7 @@ use Rattle.std.proofs.lemmas.List.Elements.{All-cons, All-nil, All-weaker, All-a
 use Rattle.elm_type.specs.Types.{Name, Rigid, ElmTypes, Fields, End, Closed, Made, Record, NoType, MoreType, NoField, MoreField, types_of}
 use Rattle.elm_type.specs.Classes.{Ground}
 use Rattle.elm_type.specs.Rows.{name_lt, insert_field, insert_all, extend}
-use Rattle.ground_types.specs.Ground.{lacks_all}
+use Rattle.elm_type.specs.Ground.{lacks_all}
 use Rattle.type_store.specs.Store.{FieldSlot, Cell, Open, Bound, Built, Row, Constant, Store, slot_at, field_slots, field_names}
 use Rattle.type_store.specs.Shape.{parts_of, IsCell}
 use Rattle.type_store.specs.Solutions.{Values, row_value, Says, Fit}

@@ -8,7 +8,7 @@ use Rattle.elm_type.specs.Types.{Kind}
 use Rattle.elm_type.specs.Classes.{is_below}
 use Rattle.elm_type.specs.declared.demands.Demand.{Demand}
 use Rattle.elm_type.specs.declared.demands.Demand.TheVariants.{Never, Always, OfParts}
-use Rattle.ground_types.specs.Ground.{fits}
+use Rattle.elm_type.specs.Ground.{fits}
 use Rattle.elm_type.specs.Classes.{asks}
 use Rattle.type_store.specs.Store.{Cell, Open, Bound, Built, Row, Constant, Store, slot_at, field_names}
 use Rattle.type_store.specs.Shape.{parts_of, IsCell, AllIn, Demanded, Spread, IsSlot, Ranked, IsStore, Once}

@@ -2,7 +2,7 @@
 use Rattle.std.specs.Prelude.{◌≡◌, ℕ, ◌<◌, ◌≤◌, List, [], ◌++◌, length, Bool, true, false, Option}
 use Rattle.std.specs.List.{All}
 use Rattle.elm_type.specs.Rows.{extend}
-use Rattle.ground_types.specs.Ground.{lacks_all}
+use Rattle.elm_type.specs.Ground.{lacks_all}
 use Rattle.type_store.specs.Store.{FieldSlot, Cell, Open, Bound, Built, Row, Constant, Store, field_names, field_slots}
 use Rattle.type_store.specs.Shape.{Ascending, parts_of}
 use Rattle.type_store.specs.Solutions.{Values, Fit, AgreeBelow, Ask, MeetsAsk, Becomes, row_value, rest_value}

@@ -2,7 +2,7 @@
 use Rattle.std.specs.Prelude.{◌≡◌, ℕ, true}
 use Rattle.elm_type.specs.Types.{Rigid, Kind}
 use Rattle.elm_type.specs.Classes.{Ground}
-use Rattle.ground_types.specs.Ground.{is_ground, fits}
+use Rattle.elm_type.specs.Ground.{is_ground, fits}
 use Rattle.type_store.specs.Store.{Open, Store, slot_at}
 use Rattle.type_store.specs.Solutions.{Values, Fit, Renames, constants_of, CanFit}
 use Rattle.type_store.specs.Shape.{IsStore}

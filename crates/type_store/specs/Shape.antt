@@ -6,7 +6,7 @@ use Rattle.elm_type.specs.Classes.{is_below, is_any, asks}
 use Rattle.elm_type.specs.Rows.{name_lt}
 use Rattle.elm_type.specs.declared.demands.Demand.{Demand}
 use Rattle.elm_type.specs.declared.demands.Demand.TheVariants.{Never, Always, OfParts}
-use Rattle.ground_types.specs.Ground.{contains}
+use Rattle.elm_type.specs.Ground.{contains}
 use Rattle.type_store.specs.Store.{Cell, Open, Bound, Built, Row, Constant}
 use Rattle.type_store.specs.Store.{Slot, Store, slot_at, field_slots, field_names, end_slots}
 

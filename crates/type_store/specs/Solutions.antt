@@ -5,7 +5,7 @@ use Rattle.elm_type.specs.Types.{Name, Fields, NoField, MoreField, Closed, Made,
 use Rattle.elm_type.specs.Classes.{Ground, meets}
 use Rattle.elm_type.specs.Rows.{extend}
 use Rattle.elm_type.specs.declared.class.Class.{Class}
-use Rattle.ground_types.specs.Ground.{lacks, lacks_all, is_ground, fits}
+use Rattle.elm_type.specs.Ground.{lacks, lacks_all, is_ground, fits}
 use Rattle.type_store.specs.Store.{FieldSlot, Cell, Open, Bound, Built, Row, Constant}
 use Rattle.type_store.specs.Store.{Slot, Store, slot_at, field_names}
 

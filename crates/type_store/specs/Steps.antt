@@ -7,7 +7,7 @@ use Rattle.elm_type.specs.Classes.{asks, is_any, is_below}
 use Rattle.elm_type.specs.declared.class.Class.{Class}
 use Rattle.elm_type.specs.declared.demands.Demand.{Demand}
 use Rattle.elm_type.specs.declared.demands.Demand.TheVariants.{Never, Always, OfParts}
-use Rattle.ground_types.specs.Ground.{contains}
+use Rattle.elm_type.specs.Ground.{contains}
 use Rattle.type_store.specs.declared.pair.Pair.{Pair}
 use Rattle.type_store.specs.declared.pair.Pair.TheVariants.{Bind, Take, Parts, Rows, Apart}
 use Rattle.type_store.specs.declared.split.Turn.{Turn}

@@ -2,7 +2,7 @@
 
 ghost use Rattle.std.specs.Prelude.{◌≡◌, ◌↔◌, IsTrue};
 
-use elm_names::name::Name;
+use elm_base::names::Name;
 use elm_type::head::Head;
 use elm_type::rigid::Rigid;
 

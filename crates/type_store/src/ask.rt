@@ -1,6 +1,6 @@
 //! What is asked of type variables.
 
-use elm_names::name::Name;
+use elm_base::names::Name;
 use elm_type::class::Class;
 
 /// What is asked of variables.

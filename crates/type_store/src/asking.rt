@@ -8,7 +8,7 @@ ghost use Rattle.type_store.specs.Solutions as solutions;
 
 use crate::ask::Ask;
 use crate::slot::FieldSlot;
-use elm_names::name::Name;
+use elm_base::names::Name;
 use elm_type::class::Class;
 use std::alloc::AllocError;
 

@@ -6,7 +6,7 @@ ghost use Rattle.type_store.specs.Steps.{undone, undo_one, with_kind};
 ghost use Rattle.type_store.specs.View.{change_view, slot_view, store_view, trail_view};
 
 use crate::slot::Slot;
-use elm_names::name::Name;
+use elm_base::names::Name;
 use elm_type::class::Class;
 use std::alloc::AllocError;
 use std::mem;

@@ -4,7 +4,7 @@ ghost use Rattle.std.specs.Prelude.{◌≡◌, IfOk, map};
 ghost use Rattle.type_store.specs.View.{cell_view, field_view};
 
 use crate::slot::{Cell, FieldSlot};
-use elm_names::name::Name;
+use elm_base::names::Name;
 use std::alloc::{AllocError, Global};
 
 /// The same fields once more. The error means that memory ran out.

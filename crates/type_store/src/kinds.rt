@@ -13,7 +13,7 @@ use crate::change::{Change, write_class, write_lack};
 use crate::lookup::{is_field, is_in};
 use crate::orders::{Found, Orders};
 use crate::slot::{Cell, Slot};
-use elm_names::name::Name;
+use elm_base::names::Name;
 use elm_type::class::Class;
 use elm_type::demands::{Demand, asks, meet};
 use std::alloc::AllocError;

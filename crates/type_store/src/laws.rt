@@ -2,7 +2,7 @@
 
 ghost use Rattle.type_store.specs.Laws.{EachChoiceFits, EachStoreCanFit};
 
-use ground_types::laws::kind_law;
+use elm_type::ground_types_laws::kind_law;
 
 /// Each store has a solution, whatever its constants stand for.
 pub fn solution_law()

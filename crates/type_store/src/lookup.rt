@@ -2,12 +2,12 @@
 
 ghost use Rattle.std.specs.Prelude.{◌≡◌, map};
 ghost use Rattle.std.specs.Str.{bytes_eq};
-ghost use Rattle.ground_types.specs.Ground.{contains};
+ghost use Rattle.elm_type.specs.Ground.{contains};
 ghost use Rattle.type_store.specs.Store.{field_names};
 ghost use Rattle.type_store.specs.View.{field_view};
 
 use crate::slot::FieldSlot;
-use elm_names::name::Name;
+use elm_base::names::Name;
 
 /// Whether two names are the same.
 fn same_name(first: &Name, second: &Name) -> bool

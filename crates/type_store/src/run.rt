@@ -14,7 +14,7 @@ use crate::kinds::{step_class, step_lacks};
 use crate::orders::Orders;
 use crate::same::step_same;
 use crate::slot::Slot;
-use elm_names::name::Name;
+use elm_base::names::Name;
 use elm_type::class::Class;
 use std::alloc::{AllocError, Global};
 

@@ -1,6 +1,6 @@
 //! Type variables, and what is known of them.
 
-use elm_names::name::Name;
+use elm_base::names::Name;
 use elm_type::class::Class;
 use elm_type::head::Head;
 use elm_type::rigid::Rigid;

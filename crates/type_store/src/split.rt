@@ -9,7 +9,7 @@ ghost use Rattle.type_store.specs.Steps.{Merges, Split, Turned};
 ghost use Rattle.type_store.specs.View.{field_view, fields_in};
 
 use crate::slot::FieldSlot;
-use elm_names::name::Name;
+use elm_base::names::Name;
 use std::alloc::{AllocError, Global};
 use std::cmp::Ordering;
 

@@ -21,7 +21,7 @@ use crate::error::AddError;
 use crate::loosen::loosen;
 use crate::slot::{Cell, FieldSlot, Slot};
 use crate::tools::Tools;
-use elm_names::name::Name;
+use elm_base::names::Name;
 use elm_type::class::Class;
 use elm_type::head::Head;
 use elm_type::rigid::Rigid;

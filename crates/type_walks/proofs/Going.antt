@@ -4,7 +4,7 @@ use Rattle.std.specs.Prelude.{◌||◌}
 use Rattle.std.proofs.lemmas.List.{append-nil}
 use Rattle.elm_type.specs.Types.{Rigid}
 use Rattle.elm_type.specs.Classes.{Ground}
-use Rattle.ground_types.specs.Ground.{is_ground}
+use Rattle.elm_type.specs.Ground.{is_ground}
 use Rattle.type_items.specs.Items.{Place, Item}
 use Rattle.type_items.specs.Solutions.{Solves}
 use Rattle.type_items.specs.Principal.{unscoped}

@@ -4,3 +4,16 @@ pub mod Walking
 pub mod Going
 pub mod Cleaning
 pub mod Refitting
+pub mod Parting
+pub mod Telling
+pub mod Stopping
+pub mod Cells
+pub mod Thawing
+pub mod Generalising
+pub mod Saying
+pub mod Steps
+pub mod Stepping
+pub mod Making
+pub mod Reaching
+pub mod RowTypes
+pub mod Lacking

@@ -8,7 +8,7 @@ use Rattle.std.proofs.lemmas.List.Elements.{All-nil, All-head, recursion_from_Al
 use Rattle.elm_type.specs.Types.{Rigid, Kind, Made, Record, NoField, Closed, types_of, variable}
 use Rattle.elm_type.specs.Classes.{Ground, is_below}
 use Rattle.elm_type.specs.Rows.{extend}
-use Rattle.ground_types.specs.Ground.{lacks_all}
+use Rattle.elm_type.specs.Ground.{lacks_all}
 use Rattle.type_store.specs.Store.{Cell, Open, Bound, Built, Row, Constant, Slot, Store, slot_at, field_slots, end_slots}
 use Rattle.type_store.specs.Solutions.{Values, Fit, Says, row_value, rest_value}
 use Rattle.type_store.specs.Shape.{parts_of, IsStore}

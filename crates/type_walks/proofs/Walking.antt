@@ -1,6 +1,6 @@
 -- How walks are put together.
 use Rattle.std.proofs.Common.{◌≡◌, ℕ, ◌<◌, List, ◌++◌, Bool, true, false, cond, refl, sym, ap, ◌∙◌, subst, arith}
-use Rattle.ground_types.specs.Ground.{is_ground}
+use Rattle.elm_type.specs.Ground.{is_ground}
 use Rattle.type_items.specs.Items.{Item}
 use Rattle.type_items.specs.Solutions.{Solves}
 use Rattle.type_items.specs.Principal.{unscoped}

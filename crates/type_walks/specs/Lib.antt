@@ -3,3 +3,9 @@ pub mod Links
 pub mod Walks
 pub mod Progress
 pub mod Laws
+pub mod Told
+pub mod ToldTypesLaws
+pub mod Frozen
+pub mod Says
+pub mod TypeCopiesLaws
+pub mod TypeStepsLaws

@@ -3,7 +3,7 @@ use Rattle.std.specs.Prelude.{◌≡◌, ℕ, ◌<◌, ◌≤◌, List, length, 
 use Rattle.std.specs.List.{AllByRecursion, Contains}
 use Rattle.elm_type.specs.Types.{variables, Rigid}
 use Rattle.elm_type.specs.Classes.{Ground}
-use Rattle.ground_types.specs.Ground.{is_ground, value}
+use Rattle.elm_type.specs.Ground.{is_ground, value}
 use Rattle.type_items.specs.Items.{Place, Wanted}
 use Rattle.type_items.specs.Solutions as solutions
 use Rattle.type_store.specs.Store.{Store, slot_at}

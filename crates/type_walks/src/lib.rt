@@ -2,3 +2,6 @@
 #![tactic(auto)]
 
 pub mod laws;
+pub mod told_types_laws;
+pub mod type_copies_laws;
+pub mod type_steps_laws;

@@ -2,11 +2,11 @@
 use Rattle.std.proofs.Common.{◌≡◌, ℕ, zero, suc, pos, negsuc, Some, ◌+◌, ℤ, List, [], ◌∷◌, ◌++◌, length, Bool, true, false, inl, inr, refl, sym, ap, ◌∙◌, subst, arith, eqb-true, eq-eqb}
 use Rattle.std.proofs.lemmas.Slice.Eq.{bytes_eq-Decides}
 use Rattle.wire_value.specs.Wire.{Wire}
-use Rattle.meaning_base.specs.Texts.{unit_at}
+use Rattle.runs.specs.Texts.{unit_at}
 use Rattle.std.specs.Prelude.{◌||◌, not, if◌then◌else◌, ◌==◌, codes, int_rem, ◌+ℤ◌}
 use Rattle.std.specs.List.{zip}
 use Rattle.runs.specs.Ends.{End, Val, Crashed, OutOfFuel, Unsafe, Stuck, then_do}
-use Rattle.meaning_base.specs.Numbers.{is_zero, remainder, modulo, are_opposite, and_bits, or_bits, xor_bits, shift_left, shift_right, shift_right_zero}
+use Rattle.runs.specs.Numbers.{is_zero, remainder, modulo, are_opposite, and_bits, or_bits, xor_bits, shift_left, shift_right, shift_right_zero}
 use Rattle.elm_canon.specs.Names.{Name}
 use Rattle.elm_canon.specs.Tree.{Maker, RecordMaker, OutPort, InPort, Payload}
 use Rattle.elm_canon.specs.declared.unions.Alternative.{Alternative}
@@ -21,7 +21,7 @@ use Rattle.elm_type.specs.Types.{Record, Made, NoField, MoreField, Closed, funct
 use Rattle.elm_type.specs.Classes.{Ground}
 use Rattle.elm_type.specs.Rows.{extend, has_field, substitute, sorted}
 use Rattle.elm_type.specs.Rows as rows
-use Rattle.ground_types.specs.Ground.{lacks}
+use Rattle.elm_type.specs.Ground.{lacks}
 use Rattle.typed_values.specs.Payloads.{payload_type, IsWire, cmd_type, sub_type}
 use Rattle.typed_values.specs.World.{World, IsPrimitive, IsMaker, IsGiven, Takes, Knows, IsSound, is_port_tag, sent_type}
 use Rattle.typed_values.specs.Typed.{EndsWell, Has, HasEach, HaveFields}

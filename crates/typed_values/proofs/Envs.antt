@@ -11,7 +11,7 @@ use Rattle.elm_canon.specs.declared.reference.Ref.TheVariants.{Local, Top}
 use Rattle.elm_base.specs.declared.position.Pos.{Pos}
 use Rattle.elm_canon.specs.Tree.{Patterns, NoPattern, MorePattern, Expr, Is, NameOf, Accessor, Lambda, Apply, Strict, If}
 use Rattle.elm_canon.specs.Tree.{Logical, Let, Case, Located, Functions, NoFunction, MoreFunction}
-use Rattle.elm_proper.specs.Proper.{has_parameter, is_function}
+use Rattle.elm_canon.specs.Proper.{has_parameter, is_function}
 use Rattle.elm_meaning.specs.Values.{Value, CloV, Env, Nil, Bind, BindGroup}
 use Rattle.elm_meaning.specs.Envs.{lookup, member, closure}
 use Rattle.elm_type.specs.Types.{Rigid, function, functions, Scheme}

@@ -9,16 +9,16 @@ use Rattle.std.specs.Ordering.{nat_cmp, is_lt, ordering_then}
 use Rattle.std.specs.Cmp.Lexicographic.{slice_cmp}
 use Rattle.std.proofs.lemmas.Slice.Eq.{bytes_eq-Decides}
 use Rattle.runs.specs.Ends.{End, Val, Stuck, then_do}
-use Rattle.meaning_base.specs.Texts.{units_lt}
+use Rattle.runs.specs.Texts.{units_lt}
 use Rattle.elm_canon.specs.Names.{Name, same_name}
-use Rattle.elm_proper.specs.Spelled.{is_word, are_fields}
+use Rattle.elm_canon.specs.Spelled.{is_word, are_fields}
 use Rattle.elm_meaning.specs.Values.{Value, Values, NoValue, MoreValue, FieldValues, NoFieldV, MoreFieldV, insert_field, field_in, fields_of, replace_field, replace_fields}
 use Rattle.elm_meaning.specs.Values as values
 use Rattle.elm_type.specs.Types.{Fields, NoField, MoreField, Closed, Record, Rigid}
 use Rattle.elm_type.specs.Classes.{Ground}
 use Rattle.elm_type.specs.Rows.{name_lt, field_type, has_field, insert_all, sorted}
 use Rattle.elm_type.specs.Rows as rows
-use Rattle.ground_types.specs.Ground.{lacks, lacks_all}
+use Rattle.elm_type.specs.Ground.{lacks, lacks_all}
 use Rattle.typed_values.specs.World.{World}
 use Rattle.typed_values.specs.Typed.{Has, HasEach, HaveFields}
 use Rattle.typed_values.proofs.Names.{not_both, not_or, or_not}

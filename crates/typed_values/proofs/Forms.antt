@@ -8,7 +8,7 @@ use Rattle.elm_canon.specs.Names.{Name}
 use Rattle.elm_canon.specs.declared.unions.Tag.{Tag}
 use Rattle.elm_canon.specs.declared.unions.Tag.TheVariants.{Number as NumberTag}
 use Rattle.elm_canon.specs.Tree.{Patterns, NoPattern, MorePattern}
-use Rattle.elm_proper.specs.Proper.{has_parameter}
+use Rattle.elm_canon.specs.Proper.{has_parameter}
 use Rattle.elm_meaning.specs.Seen.{same_tag}
 use Rattle.elm_meaning.specs.Values.{Value, IntV, TextV, TagV, RecordV, CloV, KnownV, WireV, Values, NoValue, MoreValue, FieldValues, count_of}
 use Rattle.elm_type.specs.Types.{Fields, End, Closed, Over, Record, Made, NoField, MoreField, Rigid, functions}

@@ -13,7 +13,7 @@ use Rattle.elm_type.specs.declared.class.Class.TheVariants.{Any, Number, Compara
 use Rattle.elm_type.specs.declared.demands.Demand.{Demand}
 use Rattle.elm_type.specs.declared.demands.Demand.TheVariants.{Never, Always, OfParts}
 use Rattle.elm_type.proofs.Meeting.{meets_both}
-use Rattle.ground_types.specs.Ground.{contains, end_lacks, lacks, lacks_all, fits}
+use Rattle.elm_type.specs.Ground.{contains, end_lacks, lacks, lacks_all, fits}
 use Rattle.typed_values.specs.Frames.{Frame, Stands}
 use Rattle.typed_values.proofs.Rows.{extend_none, has_all, has_substituted}
 

@@ -15,7 +15,7 @@ use Rattle.elm_type.specs.Types.{Made, MoreType, NoType, types_of, tuple, list_t
 use Rattle.elm_type.specs.Classes.{Ground}
 use Rattle.elm_type.specs.Rows.{substitute, substitute_all}
 use Rattle.elm_type.specs.declared.head.Head.TheVariants as head
-use Rattle.ground_types.specs.Ground.{leaf_value}
+use Rattle.elm_type.specs.Ground.{leaf_value}
 use Rattle.std.specs.List.{range_with_len}
 use Rattle.type_items.specs.Items.{Place, Wanted, child, children, at}
 use Rattle.type_items.specs.Scopes.{Known}

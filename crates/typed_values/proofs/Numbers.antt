@@ -11,7 +11,7 @@ use Rattle.elm_type.specs.declared.class.Class.TheVariants.{Number}
 use Rattle.elm_type.specs.declared.demands.Demand.TheVariants.{Never, Always}
 use Rattle.elm_type.specs.declared.head.Head.{Head}
 use Rattle.elm_type.specs.declared.head.Head.TheVariants as head
-use Rattle.ground_types.specs.Ground.{lacks, value}
+use Rattle.elm_type.specs.Ground.{lacks, value}
 use Rattle.type_items.specs.Items.{Place, at}
 use Rattle.typed_values.specs.Frames.{Frame, of, Stands}
 use Rattle.typed_values.proofs.Names.{not_both}

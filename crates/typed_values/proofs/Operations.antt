@@ -7,7 +7,7 @@ use Rattle.std.specs.Ordering.{is_lt, is_gt, is_le, is_ge}
 use Rattle.std.specs.List.{zip, range_with_len, enumerate_from}
 use Rattle.elm_base.specs.declared.position.Pos.{Pos}
 use Rattle.runs.specs.Ends.{End, Val, Unsafe, then_do}
-use Rattle.meaning_base.specs.Numbers.{add, subtract, multiply, negate, quotient, exact}
+use Rattle.runs.specs.Numbers.{add, subtract, multiply, negate, quotient, exact}
 use Rattle.wire_value.specs.Exact.{is_exact}
 use Rattle.elm_canon.specs.Names.{Name}
 use Rattle.elm_canon.specs.declared.reference.Ref.{Ref}
@@ -17,7 +17,7 @@ use Rattle.elm_canon.specs.declared.tree.Operator.{Operator}
 use Rattle.elm_canon.specs.declared.tree.Operator.TheVariants as operator
 use Rattle.elm_canon.specs.Unions.{Union}
 use Rattle.elm_canon.specs.Tree.{FieldsOf, Op, TupleOf, ListOf, Build, RecordOf, Access, Update, Negate, Binary}
-use Rattle.elm_proper.specs.Spelled.{is_word, are_fields}
+use Rattle.elm_canon.specs.Spelled.{is_word, are_fields}
 use Rattle.elm_meaning.specs.Values.{Value, IntV, RecordV, Values, NoValue, MoreValue, FieldValues, Env, Bind, count_of, truth, list_of, nil, field_of}
 use Rattle.elm_meaning.specs.Equal.{equals}
 use Rattle.elm_meaning.specs.Order.{compares}
@@ -28,7 +28,7 @@ use Rattle.elm_type.specs.Classes.{Ground, meets}
 use Rattle.elm_type.specs.Rows.{extend, has_field, insert_field, insert_all, sorted, closed, substitute, substitute_fields}
 use Rattle.elm_type.specs.declared.class.Class.{Class}
 use Rattle.elm_type.specs.declared.class.Class.TheVariants.{Any, Number as Numbers, Comparable, Appendable}
-use Rattle.ground_types.specs.Ground.{lacks_all, leaf_value, value, fits}
+use Rattle.elm_type.specs.Ground.{lacks_all, leaf_value, value, fits}
 use Rattle.type_items.specs.Items.{Place, child, Wanted, at, children, Same, lack_items, class_items}
 use Rattle.type_items.specs.Scopes.{Known, Mono, Entries, Scope}
 use Rattle.type_items.specs.Patterns.{shape, shape_items, fields_at, open_record, pattern_items, field_names_before, bind_pattern}

@@ -11,7 +11,7 @@ use Rattle.elm_meaning.specs.Values.{Value, Values, NoValue, MoreValue, Env, Bin
 use Rattle.elm_meaning.specs.Match.{matches, matches_all, is_of, and_match}
 use Rattle.elm_type.specs.Types.{int_type, tuple}
 use Rattle.elm_type.specs.Rows.{substitute}
-use Rattle.ground_types.specs.Ground.{value}
+use Rattle.elm_type.specs.Ground.{value}
 use Rattle.type_items.specs.Items.{Place, child, Wanted, Same, nonsense}
 use Rattle.type_items.specs.Scopes.{Scope}
 use Rattle.type_items.specs.Patterns.{shape, shape_items, literal_type, pattern_items, patterns_items, bind_pattern}

@@ -8,7 +8,7 @@ use Rattle.elm_type.specs.Types.{Name, Rigid, variable}
 use Rattle.elm_type.specs.Classes.{is_below}
 use Rattle.elm_type.specs.declared.class.Class.{Class}
 use Rattle.elm_type.specs.declared.class.Class.TheVariants.{Any, Number, Comparable, Appendable, CompAppend}
-use Rattle.ground_types.specs.Ground.{contains, lacks_all}
+use Rattle.elm_type.specs.Ground.{contains, lacks_all}
 use Rattle.typed_values.specs.Sample.{SampleStands}
 use Rattle.typed_values.proofs.Keeping.{and_both}
 

@@ -6,14 +6,14 @@ use Rattle.std.proofs.lemmas.Slice.Eq.{bytes_eq-Decides}
 use Rattle.wire_value.specs.Wire as wire
 use Rattle.wire_value.specs.Wire.{Wire, Wires, Members}
 use Rattle.runs.specs.Ends.{End, Val, Crashed, OutOfFuel, Unsafe, Stuck, then_do}
-use Rattle.meaning_base.specs.Texts.{units_lt}
-use Rattle.meaning_base.specs.Members.{put_wire}
+use Rattle.runs.specs.Texts.{units_lt}
+use Rattle.runs.specs.Members.{put_wire}
 use Rattle.elm_canon.specs.Names.{Name, same_name}
 use Rattle.elm_canon.specs.declared.unions.Tag.TheVariants.{Number}
 use Rattle.elm_canon.specs.Tree.{Payload, IntPayload, BoolPayload, TextPayload, MaybePayload, ListPayload, TuplePayload}
 use Rattle.elm_canon.specs.Tree.{RecordPayload, Payloads, NoPayload, MorePayload, PayloadFields, NoPayloadField}
 use Rattle.elm_canon.specs.Tree.{MorePayloadField, Patterns, NoPattern, MorePattern}
-use Rattle.elm_proper.specs.Proper.{has_parameter}
+use Rattle.elm_canon.specs.Proper.{has_parameter}
 use Rattle.elm_meaning.specs.Values.{Value, IntV, TextV, TagV, RecordV, CloV, KnownV, WireV}
 use Rattle.elm_meaning.specs.Seen.{see}
 use Rattle.elm_meaning.specs.Equal.{equal, same_wire, same_wires, same_members, member_names, same_names}

@@ -10,7 +10,7 @@ use Rattle.elm_type.specs.Types.{ElmType, ElmTypes, Fields, Closed, Over, Made, 
 use Rattle.elm_type.specs.Classes.{Ground}
 use Rattle.elm_type.specs.Rows.{extend, substitute, substitute_all, substitute_fields}
 use Rattle.elm_type.specs.declared.head.Head.TheVariants as head
-use Rattle.ground_types.specs.Ground.{leaf_value}
+use Rattle.elm_type.specs.Ground.{leaf_value}
 use Rattle.type_items.specs.Items.{Place, Wanted}
 use Rattle.type_items.specs.Scopes.{Known, leaf_at, instance}
 use Rattle.type_items.specs.Patterns.{Shape, parameters_of, result_of, declared_shape}

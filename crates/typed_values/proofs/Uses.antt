@@ -8,7 +8,7 @@ use Rattle.elm_type.specs.Classes.{Ground, meets}
 use Rattle.elm_type.specs.Rows.{substitute}
 use Rattle.elm_type.specs.declared.class.Class.{Class}
 use Rattle.elm_type.specs.declared.class.Class.TheVariants.{Any, Number, Comparable, Appendable, CompAppend}
-use Rattle.ground_types.specs.Ground.{lacks, lacks_all, leaf_value, value, fits}
+use Rattle.elm_type.specs.Ground.{lacks, lacks_all, leaf_value, value, fits}
 use Rattle.type_items.specs.Items.{Place, child, Wanted, at, Same, class_items, lack_items, kind_items}
 use Rattle.elm_meaning.specs.Envs.{lookup}
 use Rattle.type_items.specs.Scopes.{entry_of, Entry, Mono, Instance, General, Scope, leaf_at, instance, instance_items, use_items}

@@ -6,7 +6,7 @@ use Rattle.wire_value.specs.Wire as wire
 use Rattle.wire_value.specs.Wire.{Wire, Wires, Members}
 use Rattle.wire_value.specs.Exact.{is_exact}
 use Rattle.runs.specs.Ends.{End, Val, Crashed, OutOfFuel, Unsafe, Stuck, then_do}
-use Rattle.meaning_base.specs.Members.{put_wire}
+use Rattle.runs.specs.Members.{put_wire}
 use Rattle.elm_canon.specs.Names.{Name}
 use Rattle.elm_canon.specs.declared.unions.Tag.{Tag}
 use Rattle.elm_canon.specs.declared.unions.Tag.TheVariants.{Number}

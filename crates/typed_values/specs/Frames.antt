@@ -5,7 +5,7 @@ use Rattle.std.specs.List.{AllByRecursion}
 use Rattle.elm_type.specs.Types.{Rigid, Leaf, Free, Fixed, Kind, Scheme, kind_at}
 use Rattle.elm_type.specs.Classes.{Ground, meets}
 use Rattle.elm_type.specs.Rows.{substitute}
-use Rattle.ground_types.specs.Ground.{value, lacks_all, fits}
+use Rattle.elm_type.specs.Ground.{value, lacks_all, fits}
 use Rattle.type_items.specs.Items.{Place, Wanted}
 use Rattle.type_items.specs.Scopes.{Entry, Mono, Instance, General, Scope, one_types}
 use Rattle.type_items.specs.Solutions.{Values, Solves}

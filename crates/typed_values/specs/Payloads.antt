@@ -4,7 +4,7 @@ use Rattle.std.specs.Prelude.{◌≡◌, ℕ, ℤ, List, [], ◌∷◌, Bool, fa
 use Rattle.std.specs.Str.{bytes_eq}
 use Rattle.wire_value.specs.Wire as wire
 use Rattle.wire_value.specs.Wire.{Wire, Wires, Members}
-use Rattle.meaning_base.specs.Members.{put_wire}
+use Rattle.runs.specs.Members.{put_wire}
 use Rattle.elm_canon.specs.Names.{Name}
 use Rattle.elm_canon.specs.Tree.{Payload, IntPayload, BoolPayload, TextPayload, MaybePayload, ListPayload, TuplePayload}
 use Rattle.elm_canon.specs.Tree.{RecordPayload, Payloads, NoPayload, MorePayload, PayloadFields, NoPayloadField}

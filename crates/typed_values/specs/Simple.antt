@@ -8,13 +8,13 @@ use Rattle.elm_canon.specs.Tree.{Patterns, NoPattern, MorePattern, Op, Build, Up
 use Rattle.elm_canon.specs.Tree.{Lambda, Apply, Strict, If, Logical, Let, Case, Located, Exprs, NoExpr, MoreExpr}
 use Rattle.elm_canon.specs.Tree.{Branches, NoBranch, MoreBranch, Groups, NoGroup, MoreGroup, Group, Together, Constant}
 use Rattle.elm_canon.specs.Tree.{Destructure, Functions, NoFunction, MoreFunction}
-use Rattle.elm_proper.specs.Spelled.{are_fields}
-use Rattle.elm_proper.specs.Proper.{ProperOp, among, count_of, count_exprs, has_parameter, is_function}
+use Rattle.elm_canon.specs.Spelled.{are_fields}
+use Rattle.elm_canon.specs.Proper.{ProperOp, among, count_of, count_exprs, has_parameter, is_function}
 use Rattle.type_items.specs.Uses.{used, used_functions}
 use Rattle.type_items.specs.Definitions.{Definition}
 use Rattle.type_items.specs.Expressions.{definitions}
 use Rattle.pattern_check.specs.Missing.{missing}
-use Rattle.port_maps.specs.Maps.{Carrying, Rebuilds, IsSame, IsAfter}
+use Rattle.elm_canon.specs.Maps.{Carrying, Rebuilds, IsSame, IsAfter}
 use Rattle.typed_values.specs.World.{World, Declares, Makes, Holds}
 
 -- none of the names is hidden

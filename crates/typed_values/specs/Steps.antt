@@ -20,7 +20,7 @@ use Rattle.elm_meaning.specs.Primitives.{known}
 use Rattle.elm_type.specs.Types.{MoreField, NoField, function, named, bool_type, string_type}
 use Rattle.elm_type.specs.Classes.{Ground}
 use Rattle.elm_type.specs.Rows.{extend}
-use Rattle.ground_types.specs.Ground.{lacks}
+use Rattle.elm_type.specs.Ground.{lacks}
 use Rattle.type_items.specs.Items.{Place, Wanted}
 use Rattle.type_items.specs.Scopes.{Known, Scope}
 use Rattle.type_items.specs.Patterns.{Shape, shape, shape_items, literal_type, pattern_items, bind_pattern}

@@ -6,7 +6,7 @@ use Rattle.runs.specs.Ends.{End, Val, Crashed, OutOfFuel, Unsafe, Stuck}
 use Rattle.elm_canon.specs.Names.{same_ref}
 use Rattle.elm_canon.specs.declared.reference.Ref.{Ref}
 use Rattle.elm_canon.specs.Tree.{Patterns, Expr, Functions, NoFunction, MoreFunction}
-use Rattle.elm_proper.specs.Proper.{has_parameter, is_function}
+use Rattle.elm_canon.specs.Proper.{has_parameter, is_function}
 use Rattle.elm_meaning.specs.Values.{Value, IntV, TextV, TagV, RecordV, CloV, KnownV, WireV, Values, NoValue, MoreValue}
 use Rattle.elm_meaning.specs.Values.{FieldValues, NoFieldV, MoreFieldV, Env, Nil, Bind, BindGroup}
 use Rattle.elm_type.specs.Types.{Fields, Record, NoField, MoreField, Closed, Rigid, functions, char_type}

@@ -13,7 +13,7 @@ use Rattle.elm_canon.specs.declared.unions.Alternative.{Alternative}
 use Rattle.elm_canon.specs.Unions.{Union, TupleUnion, ListUnion, Declared}
 use Rattle.elm_canon.specs.Unions.{tuple_alternative, nil_alternative, cons_alternative}
 use Rattle.elm_canon.specs.Tree as canon
-use Rattle.elm_proper.specs.Spelled.{are_fields}
+use Rattle.elm_canon.specs.Spelled.{are_fields}
 use Rattle.elm_meaning.specs.Seen.{same_tag, same_kind}
 use Rattle.elm_meaning.specs.Functions as primitives
 use Rattle.elm_meaning.specs.Functions.{Primitive, Bodiless, Given, Getter, Core}
@@ -25,7 +25,7 @@ use Rattle.elm_type.specs.Classes.{Ground, meets}
 use Rattle.elm_type.specs.Rows.{closed, extend, substitute}
 use Rattle.elm_type.specs.declared.class.Class.TheVariants.{Comparable}
 use Rattle.elm_type.specs.declared.head.Head.TheVariants as head
-use Rattle.ground_types.specs.Ground.{lacks}
+use Rattle.elm_type.specs.Ground.{lacks}
 use Rattle.type_items.specs.Scopes.{Known}
 use Rattle.typed_values.specs.Payloads.{payload_type, IsWire, HasEachOnce, cmd_type, sub_type}
 

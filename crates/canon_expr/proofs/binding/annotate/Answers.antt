@@ -11,6 +11,6 @@ returns-clause-log c =
     let t = type_view (tokens_view c.args.tokens.now) c.args.written.now in
     let uses = c.args.log.now.uses.items in
     λ w h. record {
-      findings = c.in_ok-annotation.ensures.faults w h;
+      findings = c.in_ok-meant.ensures.faults w h;
       uses = sym (append-nil uses) ∙ ap (λ l. uses ++ l) (sym (type_unused w t));
     }

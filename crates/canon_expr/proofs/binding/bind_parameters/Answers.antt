@@ -2,10 +2,10 @@
 use Rattle.std.proofs.Common.{sym, ap, ◌∙◌}
 use Rattle.elm_tree.specs.View.{words_view}
 use Rattle.elm_tree.specs.Turns.{tokens_view}
-use Rattle.canon_sites.specs.Patterns.{binding_sites}
-use Rattle.canon_scope.specs.Scope.{locals_of}
-use Rattle.canon_scope.proofs.Growing.{grows_more}
-use Rattle.canon_pattern.proofs.Meaning.{grows_at}
+use Rattle.canon_env.specs.Patterns.{binding_sites}
+use Rattle.canon_expr.specs.Scope.{locals_of}
+use Rattle.canon_expr.proofs.Growing.{grows_more}
+use Rattle.canon_expr.proofs.Meaning.{grows_at}
 use Rattle.canon_expr.proofs.binding.bind_parameters.Goals as goal
 
 pub returns-clause-log : goal.returns-clause-log

@@ -3,10 +3,10 @@ use Rattle.std.proofs.Common.{sym, ap, ◌∙◌}
 use Rattle.std.proofs.lemmas.Result.{on_ok_weaker}
 use Rattle.elm_tree.specs.View.{words_view}
 use Rattle.elm_tree.specs.Turns.{tokens_view}
-use Rattle.canon_sites.specs.Locals.{with_names}
-use Rattle.canon_sites.specs.Patterns.{binding_sites}
-use Rattle.canon_scope.specs.Scope.{locals_of}
-use Rattle.canon_pattern.proofs.Meaning.{grows_at, on_ok}
+use Rattle.canon_env.specs.Locals.{with_names}
+use Rattle.canon_env.specs.Patterns.{binding_sites}
+use Rattle.canon_expr.specs.Scope.{locals_of}
+use Rattle.canon_expr.proofs.Meaning.{grows_at, on_ok}
 use Rattle.canon_expr.proofs.binding.enter_block.Goals as goal
 
 pub returns-clause-names : goal.returns-clause-names

@@ -7,9 +7,9 @@ use Rattle.elm_tree.specs.Turns.{tokens_view}
 use Rattle.elm_canon.specs.Tree as canon
 use Rattle.elm_canon.specs.View.{expr_view}
 use Rattle.canon_env.specs.Imports.{name_of}
-use Rattle.canon_sites.specs.Sites.{FieldsTogether}
-use Rattle.canon_pattern.proofs.Meaning.{grows_at, on_ok}
-use Rattle.canon_leaves.specs.Exprs.{at}
+use Rattle.canon_env.specs.Sites.{FieldsTogether}
+use Rattle.canon_expr.proofs.Meaning.{grows_at, on_ok}
+use Rattle.canon_expr.specs.Exprs.{at}
 use Rattle.canon_expr.specs.Records.{record_op}
 use Rattle.canon_expr.proofs.records.record_of.Goals as goal
 

@@ -15,25 +15,25 @@ use Rattle.elm_canon.specs.Tree as canon
 use Rattle.elm_canon.specs.View.{expr_view, branch_view, annotation_view}
 use Rattle.elm_canon.proofs.Views as canon_views
 use Rattle.canon_env.proofs.Filtering.{pushed, map_next, map_map_next}
-use Rattle.canon_sites.specs.Locals.{with_names}
-use Rattle.canon_sites.specs.Patterns.{words_of, words_of_all, pattern_of, patterns_of, pattern_sites, list_sites}
-use Rattle.canon_sites.specs.Patterns.{binding_sites}
-use Rattle.canon_scope.specs.Scope.{locals_of, without}
-use Rattle.canon_scope.proofs.Growing.{grows_more}
-use Rattle.canon_pattern.proofs.Meaning.{grows_at, on_ok}
-use Rattle.canon_pattern.proofs.Steps.{flat_next, take_all}
-use Rattle.canon_calls.specs.Callees.{finished}
-use Rattle.canon_calls.specs.Calls.{callee_view}
-use Rattle.canon_calls.specs.Chains.{operand_view}
-use Rattle.canon_blocks.specs.Binding.{bound_by, bound_by_each, bound_in, used_definition, uses_among, defined_in, is_function}
-use Rattle.canon_blocks.specs.Blocks.{groups_in, joined_sites, reaching_sites}
-use Rattle.canon_blocks.specs.Kept.{Binds, made_view}
-use Rattle.canon_blocks.proofs.Listing.{each_bound}
-use Rattle.canon_leaves.specs.Exprs.{expr_sites, meant, definition_sites, made_by}
-use Rattle.canon_leaves.specs.Exprs.{definitions_sites, made_in, annotation_of, at, meant_parts, part_sites, part_words}
+use Rattle.canon_env.specs.Locals.{with_names}
+use Rattle.canon_env.specs.Patterns.{words_of, words_of_all, pattern_of, patterns_of, pattern_sites, list_sites}
+use Rattle.canon_env.specs.Patterns.{binding_sites}
+use Rattle.canon_expr.specs.Scope.{locals_of, without}
+use Rattle.canon_expr.proofs.Growing.{grows_more}
+use Rattle.canon_expr.proofs.Meaning.{grows_at, on_ok}
+use Rattle.canon_expr.proofs.Steps.{flat_next, take_all}
+use Rattle.canon_expr.specs.Callees.{finished}
+use Rattle.canon_expr.specs.Calls.{callee_view}
+use Rattle.canon_expr.specs.Chains.{operand_view}
+use Rattle.canon_expr.specs.Binding.{bound_by, bound_by_each, bound_in, used_definition, uses_among, defined_in, is_function}
+use Rattle.canon_expr.specs.Blocks.{groups_in, joined_sites, reaching_sites}
+use Rattle.canon_expr.specs.Kept.{Binds, made_view}
+use Rattle.canon_expr.proofs.Listing.{each_bound}
+use Rattle.canon_expr.specs.Exprs.{expr_sites, meant, definition_sites, made_by}
+use Rattle.canon_expr.specs.Exprs.{definitions_sites, made_in, annotation_of, at, meant_parts, part_sites, part_words}
 use Rattle.canon_expr.specs.Records.{base_values, base_sites, record_op}
 use Rattle.canon_env.specs.Imports.{name_of}
-use Rattle.canon_sites.specs.Sites.{FieldsTogether}
+use Rattle.canon_env.specs.Sites.{FieldsTogether}
 use Rattle.canon_expr.proofs.Lists.{each_meant, each_sites, parts_meant, parts_sites, part_meant, one_part_sites}
 use Rattle.canon_expr.proofs.Lists.{operands_mean, operands_sites, operand, operand_sites, branches_mean, branches_sites}
 use Rattle.canon_expr.proofs.Lists.{branch_meant, one_branch_sites, each_definition, annotated, annotated_next, made_next}
@@ -52,14 +52,14 @@ meant_each-loop-one-preserved t c =
     let e = c.one-item.result in
     record {
       meaning = λ w locals s.
-          one_more c.in_ok-push_finished.ensures (c.loop-one.invariant.meaning w locals s)
-          (ap finished (c.in_ok-callee.ensures.meaning w locals (stays s c.loop-one.invariant.scope)))
+          one_more c.in_ok-push_meaning.ensures (c.loop-one.invariant.meaning w locals s)
+          (c.in_ok-meaning.ensures.meaning w locals (stays s c.loop-one.invariant.scope))
           ∙ sym (map_map_next (meant w locals) view written i e (omega arith) c.one-item.is);
       log = λ w locals s.
           grows_at _ _ (flat_next (expr_sites w locals) view written i e (omega arith) c.one-item.is)
           (grows_more (c.loop-one.invariant.log w locals s)
-          (c.in_ok-callee.ensures.log w locals (stays s c.loop-one.invariant.scope)));
-      scope = c.in_ok-callee.ensures.scope ∙ c.loop-one.invariant.scope;
+          (c.in_ok-meaning.ensures.log w locals (stays s c.loop-one.invariant.scope)));
+      scope = c.in_ok-meaning.ensures.scope ∙ c.loop-one.invariant.scope;
     }
 
 pub meant_each-returns : goal.meant_each-returns
@@ -87,8 +87,8 @@ meant_parts-loop-field-preserved t c =
     let p = c.field-item.result in
     record {
       meaning = λ w locals s.
-          one_more c.in_ok-push_finished.ensures (c.loop-field.invariant.meaning w locals s)
-          (ap finished (c.in_ok-callee.ensures.meaning w locals (stays s c.loop-field.invariant.scope))
+          one_more c.in_ok-push_meaning.ensures (c.loop-field.invariant.meaning w locals s)
+          (c.in_ok-meaning.ensures.meaning w locals (stays s c.loop-field.invariant.scope)
           ∙ sym (ap (part_meant w locals) (views.part_of tokens p)))
           ∙ append_assoc (map expr_view c.args.before.items) (map (part_meant w locals) (map view (take i fields)))
           (part_meant w locals (view p) ∷ [])
@@ -98,8 +98,8 @@ meant_parts-loop-field-preserved t c =
           grows_at _ _ (flat_next (one_part_sites w locals) view fields i p (omega arith) c.field-item.is)
           (grows_more (c.loop-field.invariant.log w locals s)
           (grows_at _ _ (ap (one_part_sites w locals) (views.part_of tokens p))
-          (c.in_ok-callee.ensures.log w locals (stays s c.loop-field.invariant.scope))));
-      scope = c.in_ok-callee.ensures.scope ∙ c.loop-field.invariant.scope;
+          (c.in_ok-meaning.ensures.log w locals (stays s c.loop-field.invariant.scope))));
+      scope = c.in_ok-meaning.ensures.scope ∙ c.loop-field.invariant.scope;
     }
 
 pub meant_parts-returns : goal.meant_parts-returns
@@ -214,10 +214,10 @@ meant_branches-returns t c =
 pub meant-returns : goal.meant-returns
 meant-returns t c = record {
   meaning =
-      IfOk-weaker c.finished.result _ _
-      (λ e is w locals s. is ∙ ap finished (c.in_ok-callee.ensures.meaning w locals s)) c.finished.ensures;
-  log = on_ok c.finished.result c.in_ok-callee.ensures.log;
-  scope = on_ok c.finished.result c.in_ok-callee.ensures.scope;
+      IfOk-weaker c.finish.result _ _
+      (λ e is w locals s. is ∙ ap finished (c.in_ok-callee.ensures.meaning w locals s)) c.finish.ensures;
+  log = on_ok c.finish.result c.in_ok-callee.ensures.log;
+  scope = on_ok c.finish.result c.in_ok-callee.ensures.scope;
 }
 
 pub scoped-returns : goal.scoped-returns

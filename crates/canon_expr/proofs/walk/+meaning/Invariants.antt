@@ -6,15 +6,15 @@ use Rattle.elm_tree.specs.Tree.{definitions_of}
 use Rattle.elm_tree.specs.View as tree_view
 use Rattle.elm_tree.specs.Turns.{tokens_view}
 use Rattle.elm_canon.specs.View.{expr_view, branch_view, annotation_view}
-use Rattle.canon_sites.specs.Naming.{World}
-use Rattle.canon_sites.specs.Locals.{Locals}
-use Rattle.canon_scope.specs.Scope.{locals_of}
-use Rattle.canon_scope.specs.Logs.{Grows}
-use Rattle.canon_calls.specs.Chains.{operand_view}
-use Rattle.canon_blocks.specs.Binding.{bound_by_each, uses_among}
-use Rattle.canon_blocks.specs.Blocks.{joined_sites}
-use Rattle.canon_blocks.specs.Kept.{Binds, made_view}
-use Rattle.canon_leaves.specs.Exprs.{expr_sites, meant, definition_sites, made_in}
+use Rattle.canon_env.specs.Naming.{World}
+use Rattle.canon_env.specs.Locals.{Locals}
+use Rattle.canon_expr.specs.Scope.{locals_of}
+use Rattle.canon_expr.specs.Logs.{Grows}
+use Rattle.canon_expr.specs.Chains.{operand_view}
+use Rattle.canon_expr.specs.Binding.{bound_by_each, uses_among}
+use Rattle.canon_expr.specs.Blocks.{joined_sites}
+use Rattle.canon_expr.specs.Kept.{Binds, made_view}
+use Rattle.canon_expr.specs.Exprs.{expr_sites, meant, definition_sites, made_in}
 use Rattle.canon_expr.specs.Walking.{StandsIn}
 use Rattle.canon_expr.proofs.Lists.{part_meant, one_part_sites, operand, operand_sites, branch_meant, one_branch_sites}
 use Rattle.canon_expr.proofs.Lists.{annotated}

@@ -7,9 +7,9 @@ use Rattle.canon_env.specs.Env.{imported_rows}
 use Rattle.canon_env.specs.Imports.{name_of}
 use Rattle.canon_env.specs.Shown.{shown_view}
 use Rattle.canon_env.specs.Exposing.{import_faults}
-use Rattle.canon_names.specs.Names.{Names, names_in}
-use Rattle.canon_names.specs.Faults.{name_faults}
-use Rattle.declared_types.specs.Types.{module_world, AreDeclared, AreAll, declared_faults}
+use Rattle.canon_module.specs.Names.{Names, names_in}
+use Rattle.canon_module.specs.Faults.{name_faults}
+use Rattle.canon_type.specs.DeclaredTypes.{module_world, AreDeclared, AreAll, declared_faults}
 use Rattle.canon_module.specs.Resolve.{union_name}
 use Rattle.canon_module.specs.Kept.{setting_view}
 use Rattle.canon_module.proofs.module.begin.Goals as goal

@@ -4,9 +4,9 @@ use Rattle.elm_tree.specs.View as tree_view
 use Rattle.elm_tree.specs.Turns.{tokens_view}
 use Rattle.canon_env.specs.Env.{imported_rows, known_view}
 use Rattle.canon_env.specs.Shown.{shown_view}
-use Rattle.canon_sites.specs.Naming.{IsWorld}
-use Rattle.declared_types.specs.Types.{module_world, AreDeclared, AreAll}
-use Rattle.declared_types.specs.declared.declaring.Declared.{Declared}
+use Rattle.canon_env.specs.Naming.{IsWorld}
+use Rattle.canon_type.specs.DeclaredTypes.{module_world, AreDeclared, AreAll}
+use Rattle.canon_type.specs.declared.declaring.Declared.{Declared}
 use Rattle.canon_module.proofs.module.declared.Goals as goal
 
 pub returns-clause-types : goal.returns-clause-types

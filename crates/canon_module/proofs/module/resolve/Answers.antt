@@ -6,13 +6,13 @@ use Rattle.elm_tree.specs.Turns.{tokens_view}
 use Rattle.elm_canon.specs.View.{module_view}
 use Rattle.canon_env.specs.Env.{imported_rows}
 use Rattle.canon_env.specs.Shown.{Shown, shown_view}
-use Rattle.canon_sites.specs.Naming.{World, IsWorld}
-use Rattle.declared_types.specs.declared.declaring.Declared.{Declared}
-use Rattle.canon_sites.specs.Order.{IsInOrder}
-use Rattle.canon_names.specs.Names.{names_in}
-use Rattle.canon_values.specs.Items.{value_groups}
-use Rattle.canon_values.specs.Faults.{value_faults}
-use Rattle.declared_types.specs.Types.{module_world, declared_faults}
+use Rattle.canon_env.specs.Naming.{World, IsWorld}
+use Rattle.canon_type.specs.declared.declaring.Declared.{Declared}
+use Rattle.canon_env.specs.Order.{IsInOrder}
+use Rattle.canon_module.specs.Names.{names_in}
+use Rattle.canon_module.specs.Items.{value_groups}
+use Rattle.canon_module.specs.CanonValuesFaults.{value_faults}
+use Rattle.canon_type.specs.DeclaredTypes.{module_world, declared_faults}
 use Rattle.canon_module.specs.Offers.{exposed_by, shown_by}
 use Rattle.canon_module.specs.Resolve.{ports_in, makers_in, declared_by, heading_faults}
 use Rattle.canon_module.specs.Kept.{setting_view}

@@ -1,6 +1,6 @@
 -- The faults of values come after those that are known.
 use Rattle.std.proofs.Common.{subst}
-use Rattle.canon_sites.specs.Order.{IsInOrder}
+use Rattle.canon_env.specs.Order.{IsInOrder}
 use Rattle.canon_module.proofs.module.valued.Goals as goal
 
 pub returns-clause-faults : goal.returns-clause-faults

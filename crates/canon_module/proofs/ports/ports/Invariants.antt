@@ -3,7 +3,7 @@ use Rattle.std.specs.Prelude.{flat_map}
 use Rattle.elm_tree.specs.View.{declaration_view}
 use Rattle.elm_tree.specs.Turns.{tokens_view}
 use Rattle.elm_canon.specs.View.{port_declaration_view}
-use Rattle.canon_sites.specs.Naming.{World, IsWorld}
+use Rattle.canon_env.specs.Naming.{World, IsWorld}
 use Rattle.canon_module.specs.Resolve.{ports_in}
 use Rattle.canon_module.proofs.ports.ports.Given as goal
 

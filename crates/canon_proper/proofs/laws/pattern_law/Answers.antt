@@ -2,11 +2,11 @@
 use Rattle.std.proofs.Common.{◌≡◌, [], sym, ◌∙◌, subst}
 use Rattle.std.specs.List.{flat_map}
 use Rattle.elm_tree.specs.Tree.{Pattern}
-use Rattle.canon_sites.specs.Naming.{World}
-use Rattle.canon_sites.specs.Sites.{faults_at}
-use Rattle.canon_sites.specs.Locals.{Locals}
-use Rattle.canon_sites.specs.Patterns.{pattern_sites, pattern_of, match_sites, binding_sites, words_of}
-use Rattle.elm_proper.specs.Proper.{Scope, Binds, AreFresh}
+use Rattle.canon_env.specs.Naming.{World}
+use Rattle.canon_env.specs.Sites.{faults_at}
+use Rattle.canon_env.specs.Locals.{Locals}
+use Rattle.canon_env.specs.Patterns.{pattern_sites, pattern_of, match_sites, binding_sites, words_of}
+use Rattle.elm_canon.specs.Proper.{Scope, Binds, AreFresh}
 use Rattle.canon_proper.specs.Patterns.{IsSpelledPattern}
 use Rattle.canon_proper.specs.Worlds.{HasMakers, IsScopeOf}
 use Rattle.canon_proper.proofs.Quiet.{sound_sites, sound_split}

@@ -5,7 +5,7 @@ use Rattle.std.proofs.lemmas.Result.{on_ok_weaker}
 use Rattle.elm_canon.specs.Tree.{field_types_of, field_names}
 use Rattle.elm_canon.specs.View.{field_type_view}
 use Rattle.canon_env.specs.Exposing.{is_among}
-use Rattle.canon_sites.specs.Expanding.{bad_on}
+use Rattle.canon_env.specs.Expanding.{bad_on}
 use Rattle.canon_type.specs.Extending.{names_of}
 use Rattle.canon_type.proofs.Copies.{field_names_of}
 use Rattle.canon_type.proofs.extending.push_bad.Goals as goal

@@ -3,7 +3,7 @@ use Rattle.std.proofs.Common.{◌++◌, arith, sym, ap, ◌∙◌, append-nil}
 use Rattle.std.proofs.lemmas.Result.{on_ok_weaker}
 use Rattle.elm_canon.specs.View.{annotation_view, field_type_view}
 use Rattle.elm_canon.proofs.Views.{variable_type, shared_type, field_type}
-use Rattle.canon_sites.specs.Expanding.{bad_fields}
+use Rattle.canon_env.specs.Expanding.{bad_fields}
 use Rattle.canon_type.specs.Filling.{bad_field}
 use Rattle.canon_type.proofs.Fillings.{bad_named, bad_in_function, bad_in_tuple, bad_in_record, bad_in_extended}
 use Rattle.canon_type.proofs.Fillings.{bad_next}

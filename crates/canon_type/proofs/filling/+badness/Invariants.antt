@@ -1,8 +1,8 @@
 use Rattle.std.proofs.Common.{◌≡◌, ◌++◌, map, take}
 use Rattle.std.specs.Prelude.{flat_map}
 use Rattle.elm_canon.specs.View.{annotation_view, field_type_view}
-use Rattle.canon_sites.specs.Expanding as sites
-use Rattle.canon_sites.specs.Expanding.{bad_fields}
+use Rattle.canon_env.specs.Expanding as sites
+use Rattle.canon_env.specs.Expanding.{bad_fields}
 use Rattle.canon_type.specs.Filling.{Fills, bad_field}
 use Rattle.canon_type.proofs.filling.+badness.Given as goal
 

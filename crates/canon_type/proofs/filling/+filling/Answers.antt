@@ -4,7 +4,7 @@ use Rattle.std.proofs.lemmas.Result.{IfOk-weaker}
 use Rattle.elm_canon.specs.View.{annotation_view, field_type_view}
 use Rattle.elm_canon.proofs.Views.{variable_type, shared_type}
 use Rattle.canon_env.proofs.Filtering.{map_map_next, pushed}
-use Rattle.canon_sites.specs.Expanding.{fill}
+use Rattle.canon_env.specs.Expanding.{fill}
 use Rattle.canon_type.specs.Filling.{filled_field}
 use Rattle.canon_type.proofs.Fillings.{named_filled, function_filled, tuple_filled, record_filled, extended_filled}
 use Rattle.canon_type.proofs.Fillings.{field_filled}

@@ -1,7 +1,7 @@
 use Rattle.std.proofs.Common.{◌≡◌, map, take}
 use Rattle.elm_canon.specs.View.{annotation_view, field_type_view}
-use Rattle.canon_sites.specs.Expanding as sites
-use Rattle.canon_sites.specs.Expanding.{fill}
+use Rattle.canon_env.specs.Expanding as sites
+use Rattle.canon_env.specs.Expanding.{fill}
 use Rattle.canon_type.specs.Filling.{Fills, filled_field}
 use Rattle.canon_type.proofs.filling.+filling.Given as goal
 

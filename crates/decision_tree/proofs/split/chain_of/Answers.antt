@@ -1,7 +1,7 @@
 use Rattle.std.proofs.Common.{◌≡◌, ap, ◌∙◌, sym, pos, []}
 use Rattle.js_tree.specs.Tree.{JInt, JVar, Made}
 use Rattle.js_emit.specs.Matrix.{is_whole, tests_in}
-use Rattle.emit_patterns.specs.Before.{path_js}
+use Rattle.decision_tree.specs.Before.{path_js}
 use Rattle.decision_tree.specs.Views.{path_view, test_view, tests_view, rows_view}
 use Rattle.decision_tree.specs.declared.split.Chain.{Chain}
 use Rattle.decision_tree.specs.Run.{chosen_js, rest_js}

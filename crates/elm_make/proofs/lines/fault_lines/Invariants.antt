@@ -1,5 +1,5 @@
 use Rattle.std.proofs.Common.{◌≡◌, take}
-use Rattle.project_build.specs.Outcomes.{fault_lines}
+use Rattle.project_parts.specs.Outcomes.{fault_lines}
 use Rattle.elm_make.proofs.lines.fault_lines.Given as goal
 
 abbrev pub invariant-loop-fault : goal.invariant-loop-fault

@@ -1,5 +1,5 @@
 -- The outcome and the count are the only ones: `only_outcome`, `only_count`.
-use Rattle.project_build.specs.Outcomes.{Clean}
+use Rattle.project_parts.specs.Outcomes.{Clean}
 use Rattle.elm_make.proofs.Building.{only_outcome, only_count}
 use Rattle.elm_make.proofs.project.build.Goals as goal
 

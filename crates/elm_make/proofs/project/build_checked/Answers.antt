@@ -1,7 +1,7 @@
 -- The path of the output is refused (`absolute_stops`, `other_stops`), or the build goes on (`output_goes_on`).
 use Rattle.std.proofs.Common.{◌≡◌, [], ◌∷◌, true, false, rules}
 use Rattle.elm_base.specs.declared.fault.Code.TheVariants.{BadOutput}
-use Rattle.project_build.specs.Outcomes.{Clean, start_fault, is_output}
+use Rattle.project_parts.specs.Outcomes.{Clean, start_fault, is_output}
 use Rattle.project_file.specs.Paths.{normal_path, is_absolute}
 use Rattle.elm_make.proofs.Building.{absolute_stops, other_stops, output_goes_on, stopped_holds}
 use Rattle.elm_make.proofs.project.build_checked.Goals as goal

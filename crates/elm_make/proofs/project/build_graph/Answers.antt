@@ -1,13 +1,13 @@
 -- What the modules compile to is the outcome: a text, which `write_text` returns, or faults.
 use Rattle.std.proofs.Common.{ℕ, List, map, string_bytes, sym, ap, ◌∙◌, subst}
 use Rattle.std.proofs.lemmas.Result.{IfOk-weaker}
-use Rattle.module_files.specs.Entries.{NamesEntry}
-use Rattle.module_graph.specs.View.{graph_modules}
-use Rattle.module_walk.specs.View.{module_view}
-use Rattle.project_build.specs.Modules.{parts_of}
-use Rattle.project_build.specs.Outcomes.{IsCompiled}
+use Rattle.import_graph.specs.Entries.{NamesEntry}
+use Rattle.import_graph.specs.ModuleGraphView.{graph_modules}
+use Rattle.import_graph.specs.ModuleWalkView.{module_view}
+use Rattle.project_parts.specs.Modules.{parts_of}
+use Rattle.project_parts.specs.Outcomes.{IsCompiled}
 use Rattle.project_file.specs.Paths.{normal_path}
-use Rattle.project_compile.specs.Outcome.{outcome_of}
+use Rattle.elm_make.specs.Outcome.{outcome_of}
 use Rattle.elm_make.proofs.project.build_graph.Goals as goal
 
 pub returns-in-Text-clause-outcome : goal.returns-in-Text-clause-outcome

@@ -1,12 +1,12 @@
 -- The modules that were found are compiled (`modules_build`), or the project is refused (`refused_builds`).
 use Rattle.std.proofs.Common.{[], ◌∷◌, map, subst}
 use Rattle.std.specs.Prelude.{IfSome}
-use Rattle.module_graph.specs.Faults.{IsRefused}
-use Rattle.module_graph.specs.View.{graph_modules, HasEnd}
-use Rattle.module_heads.specs.Heads.{HasImports}
-use Rattle.module_walk.specs.View.{module_view, setting}
-use Rattle.project_build.specs.Modules.{core_names}
-use Rattle.project_build.specs.Outcomes.{Builds}
+use Rattle.import_graph.specs.Faults.{IsRefused}
+use Rattle.import_graph.specs.ModuleGraphView.{graph_modules, HasEnd}
+use Rattle.import_graph.specs.Heads.{HasImports}
+use Rattle.import_graph.specs.ModuleWalkView.{module_view, setting}
+use Rattle.project_parts.specs.Modules.{core_names}
+use Rattle.project_parts.specs.Outcomes.{Builds}
 use Rattle.elm_make.proofs.Building.{modules_build, refused_builds, stopped_holds}
 use Rattle.elm_make.proofs.project.build_modules.Goals as goal
 

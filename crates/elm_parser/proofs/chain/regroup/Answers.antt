@@ -6,7 +6,7 @@ use Rattle.elm_lexer.specs.Tokens.{Fault, first_place}
 use Rattle.elm_lexer.specs.View.{token_view}
 use Rattle.elm_tree.specs.declared.tree.Word.{Word}
 use Rattle.elm_tree.specs.Turns.{BeginsWith, clashes}
-use Rattle.elm_faults.specs.Faults.{most_operators}
+use Rattle.elm_parser.specs.Faults.{most_operators}
 use Rattle.elm_parser.specs.Chains.{ChainFault, mixed, too_many, IsMixed}
 use Rattle.elm_parser.specs.Reported.{reported}
 use Rattle.elm_parser.proofs.Answering.{err_mapped, take_all, begins_with}

@@ -11,7 +11,7 @@ use Rattle.elm_grammar.specs.Table as table
 use Rattle.elm_grammar.specs.Values.{One}
 use Rattle.elm_grammar.specs.declared.action.Item.TheVariants as item
 use Rattle.elm_values.specs.Building.{Builds}
-use Rattle.elm_faults.specs.Reading.{ReadsHead, none, some}
+use Rattle.elm_parser.specs.Reading.{ReadsHead, none, some}
 use Rattle.elm_parser.proofs.Valued.{head_kind, read_front}
 use Rattle.elm_parser.proofs.Answering.{as_many, rest_fits, left_over}
 use Rattle.elm_parser.proofs.parser.head.Goals as goal

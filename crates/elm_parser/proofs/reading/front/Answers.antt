@@ -6,8 +6,8 @@ use Rattle.elm_lexer.specs.View.{token_view, place_view}
 use Rattle.parse_machine.specs.declared.table.Symbol.TheVariants.{Part}
 use Rattle.parse_machine.specs.Grammar.{IsFrontFault}
 use Rattle.parse_machine.specs.Rows.{grammar_of}
-use Rattle.elm_faults.specs.Standing.{Finds}
-use Rattle.elm_faults.specs.Scan.{found_view, finding_view}
+use Rattle.elm_parser.specs.Standing.{Finds}
+use Rattle.elm_parser.specs.Scan.{found_view, finding_view}
 use Rattle.elm_parser.specs.Reported.{or_syntax, reported}
 use Rattle.elm_parser.proofs.Answering.{FrontReadSo, as_many, front_read, front_faulty, front_fault}
 use Rattle.elm_parser.proofs.reading.front.Goals as goal

@@ -7,9 +7,9 @@ use Rattle.elm_grammar.specs.Classes.{classed}
 use Rattle.parse_machine.specs.declared.table.Symbol.TheVariants.{Part}
 use Rattle.parse_machine.specs.Grammar.{IsFault}
 use Rattle.parse_machine.specs.Rows.{grammar_of}
-use Rattle.elm_faults.specs.Standing.{Finds}
-use Rattle.elm_faults.specs.Reading.{early}
-use Rattle.elm_faults.specs.Scan.{found_view, finding_view}
+use Rattle.elm_parser.specs.Standing.{Finds}
+use Rattle.elm_parser.specs.Reading.{early}
+use Rattle.elm_parser.specs.Scan.{found_view, finding_view}
 use Rattle.elm_parser.specs.Reported.{or_syntax, reported}
 use Rattle.elm_parser.proofs.Answering.{as_many, whole_read, whole_fault}
 use Rattle.elm_parser.proofs.reading.whole.Goals as goal

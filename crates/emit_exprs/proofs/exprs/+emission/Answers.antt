@@ -11,11 +11,11 @@ use Rattle.js_tree.specs.Tree.{Made, JVar, JArrow, JCall, JProperty, Const, Retu
 use Rattle.js_tree.specs.Postorder.{Tree, Expression, BlockOf, StatementsOf, NoStatement, ConstThen, NoItem, Item, apply}
 use Rattle.js_tree.specs.Postorder.{trees_of, top, below, statements, statements_then, Before}
 use Rattle.js_tree.specs.Postorder as output
-use Rattle.elm_proper.specs.Proper.{count_of, count_exprs}
-use Rattle.tail_loops.proofs.Forms.{link_seen}
-use Rattle.tail_loops.proofs.Steps.{count_of_patterns, count_of_exprs, linked_last}
-use Rattle.emit_operators.specs.Open.{opens}
-use Rattle.emit_patterns.specs.Opened.{opened}
+use Rattle.elm_canon.specs.Proper.{count_of, count_exprs}
+use Rattle.emit_exprs.proofs.Forms.{link_seen}
+use Rattle.emit_exprs.proofs.Steps.{count_of_patterns, count_of_exprs, linked_last}
+use Rattle.js_emit.specs.Open.{opens}
+use Rattle.decision_tree.specs.Opened.{opened}
 use Rattle.js_emit.specs.Loops.{goes_round}
 use Rattle.js_emit.specs.Made.{loop_of}
 use Rattle.js_tree.specs.declared.tree.Node as node
@@ -27,10 +27,10 @@ use Rattle.js_emit.specs.Loops.{Outside, variables}
 use Rattle.js_emit.specs.Made.{is_loop, made_in, made_all, made_round, made_choice, made_branches, made_groups, made_group}
 use Rattle.js_emit.specs.Made.{made_functions}
 use Rattle.js_emit.specs.Emit.{emit, values, calls, chosen, bodies, numbered, groups, group, functions, go_round}
-use Rattle.tail_loops.specs.Turns.{loop_view}
-use Rattle.tail_loops.proofs.Rows.{seen_next, seen_all, drop_next}
-use Rattle.emit_operators.specs.Parts.{with_parts, count_items}
-use Rattle.emit_frames.specs.Frames.{has_constant, pairs, test, tested}
+use Rattle.emit_exprs.specs.Turns.{loop_view}
+use Rattle.emit_exprs.proofs.Rows.{seen_next, seen_all, drop_next}
+use Rattle.js_emit.specs.Parts.{with_parts, count_items}
+use Rattle.emit_exprs.specs.Frames.{has_constant, pairs, test, tested}
 use Rattle.emit_exprs.specs.Chains.{turn_before, turn_after, turns_by}
 use Rattle.emit_exprs.specs.Chains.{value, placed, before, before_all, made_before, made_before_all, function_at, made_by}
 use Rattle.emit_exprs.proofs.Lists.{made_all_next, calls_next, values_next, count_values, placed_whole, made_round_next}

@@ -7,9 +7,9 @@ use Rattle.js_tree.specs.Postorder.{statements, statements_then}
 use Rattle.js_emit.specs.Loops.{Outside}
 use Rattle.js_emit.specs.Made.{made_in, made_all, made_round, made_branches, made_groups, made_functions}
 use Rattle.js_emit.specs.Emit.{values, calls, bodies, groups, functions, go_round}
-use Rattle.tail_loops.specs.Turns.{loop_view}
-use Rattle.emit_operators.specs.Parts.{with_parts}
-use Rattle.emit_frames.specs.Frames.{Grown, pairs, tested}
+use Rattle.emit_exprs.specs.Turns.{loop_view}
+use Rattle.js_emit.specs.Parts.{with_parts}
+use Rattle.emit_exprs.specs.Frames.{Grown, pairs, tested}
 use Rattle.emit_exprs.specs.Chains.{value, placed, made_before_all, before_all}
 use Rattle.emit_exprs.proofs.exprs.+emission.Given as goal
 

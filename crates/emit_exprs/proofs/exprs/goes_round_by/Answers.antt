@@ -3,10 +3,10 @@ use Rattle.std.proofs.lemmas.List.{length-map}
 use Rattle.elm_canon.specs.Tree.{exprs_of}
 use Rattle.elm_canon.specs.View.{expr_view}
 use Rattle.elm_canon.proofs.Views as view
-use Rattle.elm_proper.specs.Proper.{count_exprs}
-use Rattle.tail_loops.specs.Turns.{loop_view}
-use Rattle.tail_loops.proofs.Forms.{link_seen}
-use Rattle.tail_loops.proofs.Steps.{count_with}
+use Rattle.elm_canon.specs.Proper.{count_exprs}
+use Rattle.emit_exprs.specs.Turns.{loop_view}
+use Rattle.emit_exprs.proofs.Forms.{link_seen}
+use Rattle.emit_exprs.proofs.Steps.{count_with}
 use Rattle.emit_exprs.specs.Chains.{turns_by}
 use Rattle.emit_exprs.proofs.exprs.goes_round_by.Goals as goal
 

@@ -2,7 +2,7 @@ use Rattle.std.proofs.Common.{◌∙◌, map, take, ap, sym, arith}
 use Rattle.elm_canon.specs.Tree.{functions_of}
 use Rattle.elm_canon.specs.View.{function_view}
 use Rattle.js_emit.specs.Program.{function_lines}
-use Rattle.tail_loops.proofs.Rows.{seen_next}
+use Rattle.emit_exprs.proofs.Rows.{seen_next}
 use Rattle.emit_program.proofs.Growing.{lines_more, lines_same, functions_next}
 use Rattle.emit_program.proofs.declarations.push_functions.Goals as goal
 

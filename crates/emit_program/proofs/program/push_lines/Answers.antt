@@ -3,7 +3,7 @@ use Rattle.elm_canon.specs.View.{declaration_view}
 use Rattle.js_tree.specs.Tree.{NoLine}
 use Rattle.js_tree.specs.Postorder.{NoLineYet, trees_of}
 use Rattle.js_emit.specs.Program.{primitive_lines}
-use Rattle.tail_loops.proofs.Rows.{seen_next, seen_all}
+use Rattle.emit_exprs.proofs.Rows.{seen_next, seen_all}
 use Rattle.emit_program.specs.Programs.{core_view}
 use Rattle.emit_program.proofs.Growing.{lines_more, lines_same, primitives_next, declared_next, declared_all, all_declared}
 use Rattle.emit_program.proofs.program.push_lines.Goals as goal

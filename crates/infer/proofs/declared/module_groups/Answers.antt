@@ -2,7 +2,7 @@ use Rattle.std.proofs.Common.{◌++◌, [], take, map, flat_map, sym, ap, ◌∙
 use Rattle.std.proofs.lemmas.List.{flat_map_more}
 use Rattle.elm_canon.specs.View.{declaration_view}
 use Rattle.infer_order.proofs.Owning.{map_next}
-use Rattle.infer_modules.specs.Modules.{groups_in}
+use Rattle.infer.specs.Modules.{groups_in}
 use Rattle.infer.proofs.declared.module_groups.Goals as goal
 
 pub loop-declaration-preserved : goal.loop-declaration-preserved

@@ -1,6 +1,6 @@
 use Rattle.std.proofs.Common.{◌≡◌, map, take, flat_map}
 use Rattle.elm_canon.specs.View.{group_view, declaration_view}
-use Rattle.infer_modules.specs.Modules.{groups_in}
+use Rattle.infer.specs.Modules.{groups_in}
 use Rattle.infer.proofs.declared.module_groups.Given as goal
 
 abbrev pub invariant-loop-declaration : goal.invariant-loop-declaration

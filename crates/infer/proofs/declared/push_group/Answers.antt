@@ -1,7 +1,7 @@
 use Rattle.std.proofs.Common.{◌++◌, map, sym, ap, ◌∙◌, append-nil}
 use Rattle.std.proofs.lemmas.List.{map-append}
 use Rattle.elm_canon.specs.View.{group_view, declaration_view}
-use Rattle.infer_modules.specs.Modules.{groups_in}
+use Rattle.infer.specs.Modules.{groups_in}
 use Rattle.infer.proofs.declared.push_group.Goals as goal
 
 pub returns-in-Given : goal.returns-in-Given

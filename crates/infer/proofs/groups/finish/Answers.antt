@@ -2,7 +2,7 @@ use Rattle.std.proofs.Common.{◌≡◌, ◌<◌, length, sym, subst}
 use Rattle.std.specs.Prelude.{All}
 use Rattle.std.specs.List.{AllZip}
 use Rattle.type_items.specs.Items.{child}
-use Rattle.infer_base.specs.View.{code_of, here}
+use Rattle.infer_steps.specs.View.{code_of, here}
 use Rattle.infer_groups.specs.Defined.{Defined, group_places}
 use Rattle.infer_groups.specs.Names.{named_views}
 use Rattle.infer_groups.proofs.Entering.{each_inside}

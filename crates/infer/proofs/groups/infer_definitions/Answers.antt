@@ -5,10 +5,10 @@ use Rattle.std.proofs.lemmas.Result.{IfOk-weaker}
 use Rattle.elm_canon.specs.Tree.{Group, Module as PlainModule}
 use Rattle.elm_canon.specs.View.{group_view}
 use Rattle.type_items.specs.Scopes.{Known as PlainKnown}
-use Rattle.type_modules.specs.Groups as modules
-use Rattle.infer_base.specs.View.{bad_view, code_of, here}
-use Rattle.infer_base.specs.declared.bad.InferError.TheVariants as error
-use Rattle.infer_declared.proofs.Titles.{once_of}
+use Rattle.type_constructs.specs.TypeModulesGroups as modules
+use Rattle.infer_steps.specs.View.{bad_view, code_of, here}
+use Rattle.infer_steps.specs.declared.bad.InferError.TheVariants as error
+use Rattle.infer_exprs.proofs.Titles.{once_of}
 use Rattle.infer_order.specs.Order.{AreDefinitions, ordered}
 use Rattle.infer.specs.Middle.{Begun, Middle, Starts}
 use Rattle.infer.specs.Told.{told_views}

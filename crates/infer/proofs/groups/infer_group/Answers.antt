@@ -6,8 +6,8 @@ use Rattle.elm_canon.specs.View.{group_view}
 use Rattle.elm_canon.specs.declared.tree.Group.{Group}
 use Rattle.type_items.specs.Definitions.{Definition}
 use Rattle.type_items.specs.Inferred.{first_annotation}
-use Rattle.infer_base.specs.View.{code_of, here}
-use Rattle.infer_lets.specs.Finished.{GroupWalked, AnnotatedWalked, InferredWalked}
+use Rattle.infer_steps.specs.View.{code_of, here}
+use Rattle.infer_exprs.specs.Finished.{GroupWalked, AnnotatedWalked, InferredWalked}
 use Rattle.infer_order.specs.Order.{AreDefinitions, ordered}
 use Rattle.infer_order.specs.declared.order.Definition.{Definition as Ordered}
 use Rattle.infer.specs.Told.{told_views, written_types}

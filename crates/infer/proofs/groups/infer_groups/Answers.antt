@@ -6,9 +6,9 @@ use Rattle.elm_canon.specs.declared.tree.Group.{Group}
 use Rattle.type_items.specs.Items.{child}
 use Rattle.type_items.specs.Definitions.{in_written_order, list_group, type_groups}
 use Rattle.type_items.specs.Modules.{module_definitions}
-use Rattle.type_modules.specs.Groups.{groups_of}
-use Rattle.infer_base.specs.View.{bad_view, code_of, here}
-use Rattle.infer_base.specs.declared.bad.InferError.TheVariants as error
+use Rattle.type_constructs.specs.TypeModulesGroups.{groups_of}
+use Rattle.infer_steps.specs.View.{bad_view, code_of, here}
+use Rattle.infer_steps.specs.declared.bad.InferError.TheVariants as error
 use Rattle.infer_groups.specs.Defined.{group_places}
 use Rattle.infer.specs.Middle.{Middle}
 use Rattle.infer.specs.Told.{GroupIsTold, told_views}

@@ -2,7 +2,7 @@ use Rattle.std.proofs.Common.{map}
 use Rattle.elm_canon.specs.Tree.{Module}
 use Rattle.elm_canon.specs.View.{group_view}
 use Rattle.type_items.specs.Scopes.{Known}
-use Rattle.infer_base.specs.View.{code_of, here}
+use Rattle.infer_steps.specs.View.{code_of, here}
 use Rattle.infer_parts.specs.Steps.{CanWalk}
 use Rattle.infer.specs.Middle.{Begun, Middle}
 use Rattle.infer.specs.Told.{told_views}

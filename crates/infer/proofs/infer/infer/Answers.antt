@@ -6,13 +6,13 @@ use Rattle.elm_type.specs.Types.{Scheme}
 use Rattle.type_items.specs.Inferred.{Refused}
 use Rattle.type_items.specs.Modules.{module_items}
 use Rattle.type_items.specs.Scopes.{Known}
-use Rattle.type_modules.specs.Groups as modules
-use Rattle.infer_base.specs.Ready.{IsWritten}
-use Rattle.infer_base.specs.View.{code_of, here, known_view}
-use Rattle.infer_faults.specs.declared.explain.Said.{Said}
+use Rattle.type_constructs.specs.TypeModulesGroups as modules
+use Rattle.infer_steps.specs.Ready.{IsWritten}
+use Rattle.infer_steps.specs.View.{code_of, here, known_view}
+use Rattle.infer.specs.declared.explain.Said.{Said}
 use Rattle.infer.specs.Middle.{Middle, Starts}
-use Rattle.infer_modules.specs.Modules.{root}
-use Rattle.infer_modules.specs.Modules.{groups_in}
+use Rattle.infer.specs.Modules.{root}
+use Rattle.infer.specs.Modules.{groups_in}
 use Rattle.infer.specs.Told.{told_views}
 use Rattle.infer.specs.Types.{schemes_of}
 use Rattle.infer.proofs.Beginning.{begins_defined, begins_once, begins_simple, begins_titled, can_begin, names_once}

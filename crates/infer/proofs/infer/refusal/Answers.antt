@@ -1,13 +1,13 @@
 use Rattle.std.proofs.Common.{List, length, sym, subst}
 use Rattle.std.proofs.lemmas.Result.{IfOk-weaker}
-use Rattle.type_answers.specs.Texts.{Explains}
+use Rattle.type_constructs.specs.Texts.{Explains}
 use Rattle.type_items.specs.Faults.{FirstBad}
 use Rattle.type_items.specs.Items.{Item}
-use Rattle.type_refusals.specs.Failing.{FailsAt}
-use Rattle.infer_base.specs.View.{bad_view}
-use Rattle.infer_faults.specs.Inside.{IsInside}
-use Rattle.infer_faults.specs.declared.explain.Said.{Said}
-use Rattle.infer_modules.specs.Modules.{root}
+use Rattle.type_constructs.specs.Failing.{FailsAt}
+use Rattle.infer_steps.specs.View.{bad_view}
+use Rattle.infer.specs.Inside.{IsInside}
+use Rattle.infer.specs.declared.explain.Said.{Said}
+use Rattle.infer.specs.Modules.{root}
 use Rattle.infer.proofs.Reopened.{more, fails_on}
 use Rattle.infer.proofs.infer.refusal.Goals as goal
 

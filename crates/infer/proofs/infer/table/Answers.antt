@@ -3,7 +3,7 @@ use Rattle.std.specs.Map.{lookup}
 use Rattle.std.specs.Option.{option_or}
 use Rattle.std.proofs.lemmas.List.{map-append}
 use Rattle.elm_canon.specs.Names.{same_ref}
-use Rattle.infer_base.proofs.Scoping.{none_left}
+use Rattle.infer_steps.proofs.Scoping.{none_left}
 use Rattle.infer.specs.Told.{told_view, told_views}
 use Rattle.infer.specs.Types.{schemes_of}
 use Rattle.infer.proofs.Looking.{lookup_last, lookup_else}

@@ -13,10 +13,10 @@ use Rattle.type_items.specs.Items.{Wanted, child}
 use Rattle.type_walks.specs.Links.{Live}
 use Rattle.type_walks.specs.Regions.{below}
 use Rattle.type_constructs.proofs.Walking.{count_each}
-use Rattle.infer_base.specs.Codes.{State, Code}
-use Rattle.infer_base.specs.Ready.{Follows, AreWritten}
-use Rattle.infer_base.specs.View.{here, bad_view, code_of}
-use Rattle.infer_base.proofs.Staying.{follows_on}
+use Rattle.infer_steps.specs.Codes.{State, Code}
+use Rattle.infer_steps.specs.Ready.{Follows, AreWritten}
+use Rattle.infer_steps.specs.View.{here, bad_view, code_of}
+use Rattle.infer_steps.proofs.Staying.{follows_on}
 use Rattle.infer_steps.proofs.Stepping.{still_live, all_still_live, follows_itself}
 use Rattle.infer_parts.specs.Formed.{Formed, AllFormed, FormedBranches, FormedOp}
 use Rattle.infer_parts.specs.Linked.{FormedLink, FormedLinks}
@@ -60,9 +60,9 @@ use Rattle.elm_canon.specs.Tree as tree
 use Rattle.elm_canon.proofs.Views as view
 use Rattle.infer_exprs.proofs.exprs.+inference.Goals as goal
 use Rattle.infer_parts.proofs.Several.{arguments_none, arguments_next, arguments_stuck}
-use Rattle.infer_ops.specs.Begun.{Begun}
-use Rattle.infer_ops.specs.Operations.{parameters, function_items, function_types}
-use Rattle.infer_base.specs.Codes as plain
+use Rattle.infer_steps.specs.Begun.{Begun}
+use Rattle.infer_steps.specs.Operations.{parameters, function_items, function_types}
+use Rattle.infer_steps.specs.Codes as plain
 use Rattle.std.proofs.Common.{Some, true}
 use Rattle.std.specs.Prelude.{slice_get, is_some}
 use Rattle.std.specs.List.{AllZip}
@@ -76,7 +76,7 @@ use Rattle.type_items.specs.Patterns.{pattern_start}
 use Rattle.type_items.specs.Expressions.{nowhere, definitions, group_definitions}
 use Rattle.type_items.specs.Definitions.{Definition, type_groups, list_group, list_definitions}
 use Rattle.type_walks.specs.Regions.{none}
-use Rattle.infer_base.specs.Leaving.{without, without_constant}
+use Rattle.infer_steps.specs.Leaving.{without, without_constant}
 use Rattle.infer_order.specs.Order.{ordered, IsDefinition, AreDefinitions, IsOrder, IsSimple}
 use Rattle.infer_order.specs.Spots.{in_group, at_spot, has_titles}
 use Rattle.infer_order.proofs.Zips.{zip_beside}
@@ -85,15 +85,15 @@ use Rattle.infer_groups.specs.Members.{IsTitledAs, MembersDone, GroupDone}
 use Rattle.infer_groups.specs.Names.{named_view, named_views}
 use Rattle.infer_groups.specs.Laws.{back_at}
 use Rattle.infer_groups.specs.Lets.{listed_names}
-use Rattle.infer_declared.specs.Titles.{titles_of, AnnotationsOnce}
+use Rattle.infer_exprs.specs.Titles.{titles_of, AnnotationsOnce}
 use Rattle.infer_parts.specs.Formed.{FormedGroups, FormedGroup}
 use Rattle.infer_parts.proofs.Placing.{can_child, follows_back}
-use Rattle.infer_lets.specs.Members.{HasTitle, StandAlone, AreTitled}
-use Rattle.infer_lets.specs.Finished.{GroupStops, InferredStops, AnnotatedWalked, InferredWalked}
-use Rattle.infer_lets.specs.First.{IsAnnotated, IsPattern, AreInferred, IsFirst, StartsAt}
-use Rattle.infer_lets.proofs.Grouping.{all_some, at_number}
-use Rattle.infer_lets.proofs.Around.{can_inside, value_law}
-use Rattle.infer_lets.proofs.Closed.{inferred_stops}
+use Rattle.infer_exprs.specs.Members.{HasTitle, StandAlone, AreTitled}
+use Rattle.infer_exprs.specs.Finished.{GroupStops, InferredStops, AnnotatedWalked, InferredWalked}
+use Rattle.infer_exprs.specs.First.{IsAnnotated, IsPattern, AreInferred, IsFirst, StartsAt}
+use Rattle.infer_exprs.proofs.Grouping.{all_some, at_number}
+use Rattle.infer_exprs.proofs.Around.{can_inside, value_law}
+use Rattle.infer_exprs.proofs.Closed.{inferred_stops}
 use Rattle.infer_exprs.proofs.Measure.{at_most_ref}
 use Rattle.infer_exprs.proofs.Letting.{let_refused, body_can, let_done, body_refused, body_there}
 use Rattle.infer_exprs.proofs.Defining.{views, spot_within, within, group_there, formed_there, titles_once}

@@ -1,14 +1,14 @@
 use Rattle.std.proofs.Common.{◌≡◌, ◌≤◌, ◌+◌, ◌*◌, ℕ, List, length, map, take, drop}
 use Rattle.std.specs.List.{AllByRecursion}
 use Rattle.elm_canon.specs.Tree.{Expr}
-use Rattle.infer_base.specs.Codes.{State}
+use Rattle.infer_steps.specs.Codes.{State}
 use Rattle.elm_canon.specs.View.{expr_view, op_view, link_view, branch_view, group_view, linked}
 use Rattle.elm_canon.proofs.tree.Group.TheLaws.{the_size}
 use Rattle.type_items.specs.Definitions.{Definition as PlainDefinition}
 use Rattle.type_walks.specs.Links.{Live}
-use Rattle.infer_base.specs.Ready.{Follows}
-use Rattle.infer_base.specs.Leaving.{without}
-use Rattle.infer_base.specs.View.{here, code_of}
+use Rattle.infer_steps.specs.Ready.{Follows}
+use Rattle.infer_steps.specs.Leaving.{without}
+use Rattle.infer_steps.specs.View.{here, code_of}
 use Rattle.infer_order.specs.Order.{ordered, AreDefinitions}
 use Rattle.infer_groups.specs.Defined.{at_child}
 use Rattle.infer_groups.specs.Members.{with_named, MembersDone}

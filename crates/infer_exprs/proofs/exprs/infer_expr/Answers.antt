@@ -1,5 +1,5 @@
 use Rattle.std.proofs.lemmas.Result.{on_ok_weaker}
-use Rattle.infer_base.specs.View.{here, bad_view, code_of}
+use Rattle.infer_steps.specs.View.{here, bad_view, code_of}
 use Rattle.elm_canon.specs.View.{expr_view}
 use Rattle.infer_parts.specs.Parts.{listed}
 use Rattle.infer_parts.proofs.Going.{walked_went, stopped_stuck}

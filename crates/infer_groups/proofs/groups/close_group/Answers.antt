@@ -1,8 +1,8 @@
 use Rattle.std.proofs.Common.{◌≡◌, ◌-◌, ◌<◌, length, map, sym, ap, ◌∙◌, subst, arith}
 use Rattle.std.specs.Prelude.{All}
 use Rattle.type_items.specs.Items.{child}
-use Rattle.infer_base.specs.Codes.{State}
-use Rattle.infer_base.specs.View.{code_of, here}
+use Rattle.infer_steps.specs.Codes.{State}
+use Rattle.infer_steps.specs.View.{code_of, here}
 use Rattle.infer_groups.specs.Defined.{Defined, group_places, inside}
 use Rattle.infer_groups.specs.Members.{listed_group, at_number}
 use Rattle.infer_groups.specs.General.{with_general, AreFrozen}

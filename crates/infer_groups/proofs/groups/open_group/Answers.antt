@@ -1,5 +1,5 @@
 use Rattle.std.proofs.Common.{map, sym, ◌∙◌, subst}
-use Rattle.infer_base.specs.View.{code_of, here}
+use Rattle.infer_steps.specs.View.{code_of, here}
 use Rattle.infer_steps.specs.Made.{AreOpened}
 use Rattle.infer_groups.specs.Names.{named_views}
 use Rattle.infer_groups.proofs.Entering.{views_variables, views_titled}

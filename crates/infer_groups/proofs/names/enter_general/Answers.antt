@@ -1,8 +1,8 @@
 use Rattle.std.proofs.Common.{◌∷◌, [], map, refl, sym, ap, ◌∙◌, arith}
 use Rattle.std.proofs.lemmas.List.{map-append}
-use Rattle.infer_base.specs.View.{code_of}
-use Rattle.infer_base.specs.Leaving.{without}
-use Rattle.infer_base.proofs.Scoping.{without_more, without_none, none_left}
+use Rattle.infer_steps.specs.View.{code_of}
+use Rattle.infer_steps.specs.Leaving.{without}
+use Rattle.infer_steps.proofs.Scoping.{without_more, without_none, none_left}
 use Rattle.infer_groups.specs.General.{with_general}
 use Rattle.infer_groups.specs.Names.{general_view}
 use Rattle.infer_groups.proofs.Entering.{general_more}

@@ -1,6 +1,6 @@
 use Rattle.std.proofs.Common.{◌≡◌, map, length}
-use Rattle.infer_base.specs.View.{code_of}
-use Rattle.infer_base.specs.Leaving.{without}
+use Rattle.infer_steps.specs.View.{code_of}
+use Rattle.infer_steps.specs.Leaving.{without}
 use Rattle.infer_groups.specs.General.{with_general}
 use Rattle.infer_groups.specs.Names.{general_view}
 use Rattle.infer_groups.proofs.names.enter_general.Given as goal

@@ -1,8 +1,8 @@
 use Rattle.std.proofs.Common.{◌≡◌, ◌+◌, ◌-◌, ◌∷◌, [], length, take, get_or, sym, ap, ◌∙◌, arith}
 use Rattle.std.proofs.lemmas.List.{map-append}
-use Rattle.infer_base.specs.View.{code_of}
-use Rattle.infer_base.specs.Leaving.{without}
-use Rattle.infer_base.proofs.Scoping.{without_more, without_none}
+use Rattle.infer_steps.specs.View.{code_of}
+use Rattle.infer_steps.specs.Leaving.{without}
+use Rattle.infer_steps.proofs.Scoping.{without_more, without_none}
 use Rattle.infer_groups.specs.Members.{with_named}
 use Rattle.infer_groups.specs.Names.{named_view, named_views}
 use Rattle.infer_groups.proofs.Entering.{named_more, take_next}

@@ -1,6 +1,6 @@
 use Rattle.std.proofs.Common.{◌≡◌, ◌-◌, take, length}
-use Rattle.infer_base.specs.View.{code_of}
-use Rattle.infer_base.specs.Leaving.{without}
+use Rattle.infer_steps.specs.View.{code_of}
+use Rattle.infer_steps.specs.Leaving.{without}
 use Rattle.infer_groups.specs.Members.{with_named}
 use Rattle.infer_groups.specs.Names.{named_views}
 use Rattle.infer_groups.proofs.names.enter_named.Given as goal

@@ -3,7 +3,7 @@ use Rattle.std.proofs.Common.{◌≡◌, [], ◌∷◌, ◌++◌, take, map, OnO
 use Rattle.elm_canon.specs.Tree.{patterns_of}
 use Rattle.elm_canon.specs.View.{pattern_view, patterns_view}
 use Rattle.elm_canon.proofs.Views as view
-use Rattle.elm_proper.specs.Proper.{locals, bound_by, all_bound_by}
+use Rattle.elm_canon.specs.Proper.{locals, bound_by, all_bound_by}
 use Rattle.infer_order.proofs.Binding.{patterns_next, bound_of_items, bound_of_list}
 use Rattle.infer_order.proofs.Using.{also}
 use Rattle.infer_order.proofs.Owning.{map_next}

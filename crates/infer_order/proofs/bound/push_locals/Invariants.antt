@@ -1,5 +1,5 @@
 use Rattle.std.proofs.Common.{◌≡◌, ◌++◌, take}
-use Rattle.elm_proper.specs.Proper.{locals}
+use Rattle.elm_canon.specs.Proper.{locals}
 use Rattle.infer_order.proofs.bound.push_locals.Given as goal
 
 abbrev pub invariant-loop-name : goal.invariant-loop-name

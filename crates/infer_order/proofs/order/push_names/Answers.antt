@@ -1,6 +1,6 @@
 use Rattle.std.proofs.Common.{sym, ap, ◌∙◌, ◌++◌, ◌∷◌, [], Some}
 use Rattle.elm_canon.specs.View.{group_view, pattern_view}
-use Rattle.elm_proper.specs.Proper.{bound_by}
+use Rattle.elm_canon.specs.Proper.{bound_by}
 use Rattle.infer_order.specs.Spots.{in_group}
 use Rattle.infer_order.proofs.Standing.{function_names, no_function, constant_names, pattern_names, weaken}
 use Rattle.infer_order.proofs.order.push_names.Goals as goal

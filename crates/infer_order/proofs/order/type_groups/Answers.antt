@@ -2,8 +2,8 @@ use Rattle.std.proofs.Common.{◌≡◌, ◌<◌, [], length, map, sym, ap, subs
 use Rattle.std.specs.Prelude.{All}
 use Rattle.std.specs.List.{AllByRecursion}
 use Rattle.decl_groups.specs.Groups.{plain, IsOrder}
-use Rattle.binding_groups.specs.InOrder.{ordered_groups}
-use Rattle.binding_groups.proofs.Within.{members_within}
+use Rattle.decl_groups.specs.InOrder.{ordered_groups}
+use Rattle.decl_groups.proofs.Within.{members_within}
 use Rattle.elm_canon.specs.View.{group_view}
 use Rattle.type_items.specs.Definitions.{all_uses}
 use Rattle.infer_order.specs.Order.{ordered, IsDefinition}

@@ -2,10 +2,10 @@ use Rattle.std.proofs.Common.{◌∷◌, sym, subst}
 use Rattle.std.specs.List.{AllByRecursion}
 use Rattle.elm_canon.specs.View.{op_view}
 use Rattle.type_walks.specs.Links.{Live}
-use Rattle.infer_base.specs.View.{here, bad_view}
+use Rattle.infer_steps.specs.View.{here, bad_view}
 use Rattle.infer_steps.proofs.Stepping.{still_live}
-use Rattle.infer_ops.specs.Begun.{Begun, BeginStops}
-use Rattle.infer_ops.specs.Operations.{next_two, update_items, update_types}
+use Rattle.infer_steps.specs.Begun.{Begun, BeginStops}
+use Rattle.infer_steps.specs.Operations.{next_two, update_items, update_types}
 use Rattle.infer_parts.specs.Parts.{GoesOn, GoesOnStuck}
 use Rattle.infer_parts.proofs.Showing.{read_at, live_read}
 use Rattle.infer_parts.proofs.Onward.{AsksNoMore, no_code, goes_update, stops_update, first_goes, first_stops}

@@ -1,9 +1,9 @@
 use Rattle.std.proofs.Common.{sym, subst}
 use Rattle.type_store.specs.Shape.{IsStore}
 use Rattle.type_walks.specs.Links.{Live}
-use Rattle.infer_base.specs.Codes.{State}
-use Rattle.infer_base.specs.View.{bad_view}
-use Rattle.infer_base.specs.declared.bad.InferError.TheVariants as error
+use Rattle.infer_steps.specs.Codes.{State}
+use Rattle.infer_steps.specs.View.{bad_view}
+use Rattle.infer_steps.specs.declared.bad.InferError.TheVariants as error
 use Rattle.infer_parts.proofs.Reading.{err_is, no_code, is_read, read_unbegun}
 use Rattle.infer_parts.proofs.reads.begin_read.Goals as goal
 

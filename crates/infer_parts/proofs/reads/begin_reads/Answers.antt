@@ -1,6 +1,6 @@
 use Rattle.std.proofs.Common.{◌≡◌, ◌-◌, length, map, drop, subst, arith}
-use Rattle.infer_base.specs.View.{here, bad_view}
-use Rattle.infer_base.specs.declared.bad.InferError.TheVariants as error
+use Rattle.infer_steps.specs.View.{here, bad_view}
+use Rattle.infer_steps.specs.declared.bad.InferError.TheVariants as error
 use Rattle.infer_parts.specs.Reading.{field_view, BeginsReads}
 use Rattle.infer_parts.proofs.Reading.{err_is, reads_next, reads_unbegun}
 use Rattle.infer_parts.proofs.reads.begin_reads.Goals as goal

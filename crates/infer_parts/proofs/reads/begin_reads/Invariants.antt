@@ -1,8 +1,8 @@
 use Rattle.std.proofs.Common.{◌-◌, map, drop}
 use Rattle.type_store.specs.Shape.{IsStore}
 use Rattle.type_walks.specs.Links.{Live}
-use Rattle.infer_base.specs.Codes.{Code}
-use Rattle.infer_base.specs.View.{here}
+use Rattle.infer_steps.specs.Codes.{Code}
+use Rattle.infer_steps.specs.View.{here}
 use Rattle.infer_parts.specs.Steps.{CanWalk}
 use Rattle.infer_parts.specs.Reading.{field_view, BeginsReads}
 use Rattle.infer_parts.proofs.reads.begin_reads.Given as goal

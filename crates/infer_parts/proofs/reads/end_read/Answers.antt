@@ -1,6 +1,6 @@
 use Rattle.std.proofs.Common.{sym, subst}
 use Rattle.type_store.specs.Shape.{IsStore}
-use Rattle.infer_base.specs.View.{here, bad_view}
+use Rattle.infer_steps.specs.View.{here, bad_view}
 use Rattle.infer_parts.specs.Reading.{field_view}
 use Rattle.infer_parts.proofs.Reading.{ok_on, later_than, closes_read, stops_read}
 use Rattle.infer_parts.proofs.reads.end_read.Goals as goal

@@ -1,6 +1,6 @@
 use Rattle.std.proofs.Common.{map, ◌∙◌, arith}
 use Rattle.std.proofs.lemmas.List.{nil_from_length}
-use Rattle.infer_base.specs.View.{here, bad_view}
+use Rattle.infer_steps.specs.View.{here, bad_view}
 use Rattle.infer_parts.specs.Reading.{field_view}
 use Rattle.infer_parts.proofs.Reading.{fields_front, fields_later, ends_next, ends_stuck, ends_last}
 use Rattle.infer_parts.proofs.reads.end_reads.Goals as goal

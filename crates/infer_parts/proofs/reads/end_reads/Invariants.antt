@@ -1,7 +1,7 @@
 use Rattle.std.proofs.Common.{map, length}
 use Rattle.std.specs.List.{AllByRecursion}
 use Rattle.type_store.specs.Shape.{IsStore}
-use Rattle.infer_base.specs.View.{here}
+use Rattle.infer_steps.specs.View.{here}
 use Rattle.infer_parts.specs.Reading.{field_view, FieldLive}
 use Rattle.infer_parts.proofs.Reading.{Ending}
 use Rattle.infer_parts.proofs.reads.end_reads.Given as goal

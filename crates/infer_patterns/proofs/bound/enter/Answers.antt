@@ -1,9 +1,9 @@
 -- The last of those that wait is entered: `entered_scope`, `entered_back`.
 use Rattle.std.proofs.Common.{sym, ap, ◌∙◌, map, arith}
-use Rattle.infer_base.specs.Codes.{with_bound}
-use Rattle.infer_base.specs.Leaving.{without}
-use Rattle.infer_base.specs.View.{code_of}
-use Rattle.infer_base.proofs.Scoping.{without_none, none_left}
+use Rattle.infer_steps.specs.Codes.{with_bound}
+use Rattle.infer_steps.specs.Leaving.{without}
+use Rattle.infer_steps.specs.View.{code_of}
+use Rattle.infer_steps.proofs.Scoping.{without_none, none_left}
 use Rattle.infer_patterns.specs.View.{bound_view}
 use Rattle.infer_patterns.proofs.Binding.{entered_scope, entered_back}
 use Rattle.infer_patterns.proofs.bound.enter.Goals as goal

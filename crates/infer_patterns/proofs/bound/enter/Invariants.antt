@@ -1,7 +1,7 @@
 use Rattle.std.proofs.Common.{◌≡◌, map, length}
-use Rattle.infer_base.specs.Codes.{with_bound}
-use Rattle.infer_base.specs.Leaving.{without}
-use Rattle.infer_base.specs.View.{code_of}
+use Rattle.infer_steps.specs.Codes.{with_bound}
+use Rattle.infer_steps.specs.Leaving.{without}
+use Rattle.infer_steps.specs.View.{code_of}
 use Rattle.infer_patterns.specs.View.{bound_view}
 use Rattle.infer_patterns.proofs.bound.enter.Given as goal
 

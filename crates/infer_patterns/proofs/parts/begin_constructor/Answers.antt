@@ -1,8 +1,8 @@
 -- What the constructor makes has the wanted type: `begins`.
 use Rattle.std.proofs.Common.{◌∙◌}
-use Rattle.infer_base.specs.View.{here, bad_view, known_view}
+use Rattle.infer_steps.specs.View.{here, bad_view, known_view}
 use Rattle.infer_patterns.proofs.Beginning.{begins, begins_refused, shape_refused}
-use Rattle.infer_base.specs.declared.bad.InferError.TheVariants as error
+use Rattle.infer_steps.specs.declared.bad.InferError.TheVariants as error
 use Rattle.infer_patterns.proofs.Leaves.{err_again}
 use Rattle.infer_patterns.proofs.parts.begin_constructor.Goals as goal
 

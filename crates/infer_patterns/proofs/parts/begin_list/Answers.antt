@@ -2,10 +2,10 @@
 use Rattle.std.proofs.Common.{None, ◌∙◌}
 use Rattle.elm_canon.specs.Unions.{ListUnion, nil_alternative}
 use Rattle.type_constructs.specs.Patterns.{list_slots}
-use Rattle.infer_base.specs.View.{here, bad_view}
+use Rattle.infer_steps.specs.View.{here, bad_view}
 use Rattle.infer_steps.proofs.Stepping.{still_live}
 use Rattle.infer_patterns.proofs.Beginning.{begins, begins_refused}
-use Rattle.infer_base.specs.declared.bad.InferError.TheVariants as error
+use Rattle.infer_steps.specs.declared.bad.InferError.TheVariants as error
 use Rattle.infer_patterns.proofs.Leaves.{err_again}
 use Rattle.infer_patterns.proofs.parts.begin_list.Goals as goal
 

@@ -3,7 +3,7 @@ use Rattle.std.proofs.Common.{sym, subst}
 use Rattle.std.proofs.lemmas.Result.{IfOk-weaker}
 use Rattle.elm_canon.specs.declared.tree.Literal.{Literal}
 use Rattle.type_items.specs.Patterns.{literal_type}
-use Rattle.infer_base.specs.View.{here}
+use Rattle.infer_steps.specs.View.{here}
 use Rattle.infer_steps.specs.Made.{IsMade, Just}
 use Rattle.infer_patterns.proofs.parts.literal_type.Goals as goal
 

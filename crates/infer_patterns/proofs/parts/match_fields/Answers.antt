@@ -2,7 +2,7 @@
 use Rattle.std.proofs.Common.{◌≡◌, length, Some, ap, ◌∙◌, subst, arith}
 use Rattle.elm_canon.specs.Tree.{FieldsOf}
 use Rattle.type_constructs.specs.Patterns.{bound_before}
-use Rattle.infer_base.specs.View.{here, bad_view}
+use Rattle.infer_steps.specs.View.{here, bad_view}
 use Rattle.infer_steps.specs.Made.{IsMade}
 use Rattle.infer_steps.specs.Records.{OfRecord}
 use Rattle.infer_patterns.specs.Matches.{MatchesPattern}

@@ -1,5 +1,5 @@
 -- The literal's type is that of the values: `literal_matched`.
-use Rattle.infer_base.specs.View.{bad_view}
+use Rattle.infer_steps.specs.View.{bad_view}
 use Rattle.infer_patterns.proofs.Leaves.{ok_on, literal_matched, literal_refused}
 use Rattle.infer_patterns.proofs.parts.match_literal.Goals as goal
 

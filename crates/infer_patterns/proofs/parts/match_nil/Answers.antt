@@ -1,9 +1,9 @@
 -- A constructor without fields: `nil_matched`.
 use Rattle.std.proofs.Common.{[], ◌∙◌}
 use Rattle.elm_canon.specs.Unions.{nil_alternative}
-use Rattle.infer_base.specs.View.{here}
+use Rattle.infer_steps.specs.View.{here}
 use Rattle.infer_patterns.proofs.Listing.{nil_matched}
-use Rattle.infer_base.specs.declared.bad.InferError.TheVariants as error
+use Rattle.infer_steps.specs.declared.bad.InferError.TheVariants as error
 use Rattle.infer_patterns.proofs.Leaves.{err_again}
 use Rattle.infer_patterns.proofs.parts.match_nil.Goals as goal
 

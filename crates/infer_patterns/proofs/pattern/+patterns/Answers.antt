@@ -11,8 +11,8 @@ use Rattle.elm_canon.proofs.Views.{anything_pattern, named_pattern, as_pattern, 
 use Rattle.elm_canon.proofs.Views.{pattern_of_tuple}
 use Rattle.elm_canon.proofs.Views.{list_pattern, items_pattern, fields_pattern, located_pattern}
 use Rattle.type_walks.specs.Links.{Live}
-use Rattle.infer_base.specs.View.{here, bad_view, known_view}
-use Rattle.infer_base.specs.declared.bad.InferError.TheVariants as error
+use Rattle.infer_steps.specs.View.{here, bad_view, known_view}
+use Rattle.infer_steps.specs.declared.bad.InferError.TheVariants as error
 use Rattle.infer_steps.specs.Records.{AreDistinct}
 use Rattle.infer_steps.proofs.Stepping.{all_still_live}
 use Rattle.infer_patterns.specs.Matches.{RefusesPattern, Begins}

@@ -1,6 +1,6 @@
 use Rattle.std.proofs.Common.{◌≤◌, length, map, take}
 use Rattle.elm_canon.specs.View.{pattern_view}
-use Rattle.infer_base.specs.View.{here, known_view}
+use Rattle.infer_steps.specs.View.{here, known_view}
 use Rattle.infer_patterns.specs.Matches.{MatchesEach, AddsNames, Leads}
 use Rattle.infer_patterns.specs.View.{in_scope}
 use Rattle.infer_patterns.proofs.pattern.+patterns.Given as goal

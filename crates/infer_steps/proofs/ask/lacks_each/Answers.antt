@@ -1,5 +1,5 @@
 use Rattle.std.proofs.lemmas.Result.{err_from_is_err_and}
-use Rattle.infer_base.specs.View.{here, bad_view}
+use Rattle.infer_steps.specs.View.{here, bad_view}
 use Rattle.infer_steps.proofs.ask.lacks_each.Goals as goal
 use Rattle.infer_steps.proofs.Lacking.{lacks_none, lacks_next, lacks_refused_at}
 

@@ -1,5 +1,5 @@
 use Rattle.std.proofs.Common.{take}
-use Rattle.infer_base.specs.View.{here}
+use Rattle.infer_steps.specs.View.{here}
 use Rattle.infer_steps.specs.Asked.{AsksLacks}
 use Rattle.infer_steps.proofs.ask.lacks_each.Given as goal
 

@@ -1,4 +1,4 @@
-use Rattle.infer_base.specs.View.{here}
+use Rattle.infer_steps.specs.View.{here}
 use Rattle.infer_steps.proofs.make.functions.Goals as goal
 use Rattle.infer_steps.proofs.Stepping.{functions_begin, functions_next}
 

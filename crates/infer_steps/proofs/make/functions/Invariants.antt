@@ -1,5 +1,5 @@
 use Rattle.std.proofs.Common.{◌≡◌, ◌-◌, length, drop}
-use Rattle.infer_base.specs.View.{here}
+use Rattle.infer_steps.specs.View.{here}
 use Rattle.infer_steps.specs.Made.{IsMade, OfFunctions}
 use Rattle.infer_steps.proofs.make.functions.Given as goal
 

@@ -1,5 +1,5 @@
 use Rattle.std.proofs.Common.{◌≡◌, length}
-use Rattle.infer_base.specs.View.{here}
+use Rattle.infer_steps.specs.View.{here}
 use Rattle.infer_steps.specs.Made.{AreOpened}
 use Rattle.infer_steps.proofs.make.open_each.Given as goal
 

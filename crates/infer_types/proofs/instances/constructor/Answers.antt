@@ -1,7 +1,7 @@
 -- The variables of the type, and then its parts over them: `constructed`, `not_constructed`.
 use Rattle.std.proofs.Common.{subst}
 use Rattle.elm_type.specs.View.{type_view, scheme_view}
-use Rattle.infer_base.specs.View.{here}
+use Rattle.infer_steps.specs.View.{here}
 use Rattle.infer_types.specs.Functions.{FunctionWritten}
 use Rattle.infer_types.proofs.Shaping.{constructed}
 use Rattle.infer_types.proofs.instances.constructor.Goals as goal

@@ -3,8 +3,8 @@ use Rattle.std.proofs.Common.{◌≡◌, ◌++◌, ◌∙◌, Err, sym, ap, subs
 use Rattle.std.specs.List.{AllByRecursion}
 use Rattle.elm_type.specs.View.{type_view, scheme_view}
 use Rattle.type_walks.specs.Links.{Live}
-use Rattle.infer_base.specs.View.{here, bad_view}
-use Rattle.infer_base.specs.declared.bad.InferError.TheVariants as error
+use Rattle.infer_steps.specs.View.{here, bad_view}
+use Rattle.infer_steps.specs.declared.bad.InferError.TheVariants as error
 use Rattle.infer_types.specs.Instances.{over}
 use Rattle.infer_types.specs.Writing.{CanWrite, Writes}
 use Rattle.infer_types.proofs.Instancing.{can_write, leaves_live, is_instance, no_instance}

@@ -1,5 +1,5 @@
 use Rattle.elm_type.specs.View.{scheme_view}
-use Rattle.infer_base.specs.View.{here}
+use Rattle.infer_steps.specs.View.{here}
 use Rattle.infer_types.proofs.Instancing.{scheme_ready}
 use Rattle.infer_types.proofs.instances.known.Goals as goal
 

@@ -1,8 +1,8 @@
 -- A variable is made, and then its kind is asked: `made_of_kind`, `no_class`, `no_lacks`.
 use Rattle.std.proofs.Common.{◌∙◌, Err, ap}
 use Rattle.elm_type.specs.View.{kind_view}
-use Rattle.infer_base.specs.View.{here, bad_view}
-use Rattle.infer_base.specs.declared.bad.InferError.TheVariants as error
+use Rattle.infer_steps.specs.View.{here, bad_view}
+use Rattle.infer_steps.specs.declared.bad.InferError.TheVariants as error
 use Rattle.infer_types.proofs.Using.{err_same}
 use Rattle.infer_types.proofs.Choosing.{made_of_kind, no_class, no_lacks}
 use Rattle.infer_types.proofs.instances.of_kind.Goals as goal

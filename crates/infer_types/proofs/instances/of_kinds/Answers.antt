@@ -2,8 +2,8 @@
 use Rattle.std.proofs.Common.{◌+◌, ◌<◌, ◌≤◌, ◌∙◌, Err, [], length, map, take, sym, ap, subst, arith}
 use Rattle.std.proofs.lemmas.List.{length-map}
 use Rattle.elm_type.specs.View.{kind_view}
-use Rattle.infer_base.specs.View.{here, bad_view}
-use Rattle.infer_base.specs.declared.bad.InferError.TheVariants as error
+use Rattle.infer_steps.specs.View.{here, bad_view}
+use Rattle.infer_steps.specs.declared.bad.InferError.TheVariants as error
 use Rattle.infer_types.specs.Instances.{AreOfKinds}
 use Rattle.infer_types.proofs.Choosing.{none_chosen, chosen_next, none_at, at_view, take_all}
 use Rattle.infer_types.proofs.Using.{err_same}

@@ -1,6 +1,6 @@
 use Rattle.std.proofs.Common.{map, take}
 use Rattle.elm_type.specs.View.{kind_view}
-use Rattle.infer_base.specs.View.{here}
+use Rattle.infer_steps.specs.View.{here}
 use Rattle.infer_types.specs.Instances.{AreOfKinds}
 use Rattle.infer_types.proofs.instances.of_kinds.Given as goal
 

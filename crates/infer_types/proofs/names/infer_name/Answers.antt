@@ -1,8 +1,8 @@
 -- A name in scope, or one that is declared elsewhere: `name_walked`, `name_stopped`, `elsewhere_walked`,
 -- `elsewhere_stopped`.
 use Rattle.std.proofs.Common.{sym, subst}
-use Rattle.infer_base.specs.Ready.{AreWritten}
-use Rattle.infer_base.specs.View.{here, bad_view, meaning_view, code_of}
+use Rattle.infer_steps.specs.Ready.{AreWritten}
+use Rattle.infer_steps.specs.View.{here, bad_view, meaning_view, code_of}
 use Rattle.infer_types.proofs.Using.{ok_on, found_meaning, found_none, name_walked, name_stopped, elsewhere_walked}
 use Rattle.infer_types.proofs.Using.{elsewhere_stopped}
 use Rattle.infer_types.proofs.names.infer_name.Goals as goal

@@ -1,7 +1,7 @@
 -- An instance, and then its type: `each_used`, `each_not_used`, `each_refused`.
 use Rattle.std.proofs.Common.{◌∙◌, Err, ap}
-use Rattle.infer_base.specs.View.{here, bad_view, declared_view}
-use Rattle.infer_base.specs.declared.bad.InferError.TheVariants as error
+use Rattle.infer_steps.specs.View.{here, bad_view, declared_view}
+use Rattle.infer_steps.specs.declared.bad.InferError.TheVariants as error
 use Rattle.infer_types.proofs.Using.{ok_on, err_same, each_used, each_not_used, each_refused}
 use Rattle.infer_types.proofs.names.use_each.Goals as goal
 

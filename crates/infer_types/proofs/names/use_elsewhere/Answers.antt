@@ -2,8 +2,8 @@
 use Rattle.std.proofs.Common.{◌∙◌, Err, OnOk, sym, ap, subst}
 use Rattle.elm_canon.specs.declared.reference.Ref.{Ref}
 use Rattle.elm_type.specs.View.{scheme_view}
-use Rattle.infer_base.specs.View.{here, bad_view, known_view}
-use Rattle.infer_base.specs.declared.bad.InferError.TheVariants as error
+use Rattle.infer_steps.specs.View.{here, bad_view, known_view}
+use Rattle.infer_steps.specs.declared.bad.InferError.TheVariants as error
 use Rattle.infer_types.specs.Uses.{Elsewhere, Uses, NoUse}
 use Rattle.infer_types.proofs.Using.{ok_on, err_same, found_scheme, known_used, known_not_used, known_refused}
 use Rattle.infer_types.proofs.names.use_elsewhere.Goals as goal

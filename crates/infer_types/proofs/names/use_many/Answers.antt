@@ -1,8 +1,8 @@
 -- A copy, and then its type: `many_used`, `many_not_used`.
 use Rattle.std.proofs.Common.{refl}
-use Rattle.infer_base.specs.Codes.{State}
-use Rattle.infer_base.specs.View.{here, bad_view}
-use Rattle.type_freezing.specs.View.{frozen_view}
+use Rattle.infer_steps.specs.Codes.{State}
+use Rattle.infer_steps.specs.View.{here, bad_view}
+use Rattle.type_schemes.specs.View.{frozen_view}
 use Rattle.infer_types.proofs.Using.{ok_on, copied_follows, many_used, many_not_used}
 use Rattle.infer_types.proofs.names.use_many.Goals as goal
 

@@ -1,7 +1,7 @@
 use Rattle.std.proofs.Common.{OnOk, sym, subst}
-use Rattle.infer_base.specs.Ready.{MeaningReady}
-use Rattle.infer_base.specs.View.{here, bad_view, meaning_view}
-use Rattle.infer_base.specs.declared.scope.Meaning.{Meaning}
+use Rattle.infer_steps.specs.Ready.{MeaningReady}
+use Rattle.infer_steps.specs.View.{here, bad_view, meaning_view}
+use Rattle.infer_steps.specs.declared.scope.Meaning.{Meaning}
 use Rattle.infer_types.specs.Uses.{EntryOf, Uses, NoUse}
 use Rattle.infer_types.proofs.names.use_meaning.Goals as goal
 

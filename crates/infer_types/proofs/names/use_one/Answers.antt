@@ -1,5 +1,5 @@
 -- A name of one type: `one_used`, `one_not_used`.
-use Rattle.infer_base.specs.View.{bad_view}
+use Rattle.infer_steps.specs.View.{bad_view}
 use Rattle.infer_types.proofs.Using.{ok_on, one_used, one_not_used}
 use Rattle.infer_types.proofs.names.use_one.Goals as goal
 

@@ -1,6 +1,6 @@
 -- Parameters in turn, and then the result: `written_first`, `next_written`, `all_written`.
 use Rattle.std.proofs.Common.{◌+◌, get_or, refl, sym, ◌∙◌, subst, arith}
-use Rattle.infer_base.specs.View.{here}
+use Rattle.infer_steps.specs.View.{here}
 use Rattle.infer_steps.proofs.Stepping.{all_still_live}
 use Rattle.infer_types.specs.Writing.{CanWrite, Writes}
 use Rattle.infer_types.proofs.Spines.{the_rest}

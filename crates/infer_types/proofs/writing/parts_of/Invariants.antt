@@ -1,5 +1,5 @@
 use Rattle.std.proofs.Common.{◌<◌, length}
-use Rattle.infer_base.specs.View.{here}
+use Rattle.infer_steps.specs.View.{here}
 use Rattle.infer_types.proofs.Parting.{Written}
 use Rattle.infer_types.proofs.writing.parts_of.Given as goal
 

@@ -4,7 +4,7 @@ use Rattle.elm_type.specs.declared.node.Node.TheVariants as node
 use Rattle.std.specs.List.{AllByRecursion}
 use Rattle.type_store.specs.View.{field_view}
 use Rattle.type_walks.specs.Links.{Live}
-use Rattle.infer_base.specs.View.{here}
+use Rattle.infer_steps.specs.View.{here}
 use Rattle.infer_steps.specs.Made.{IsMade, OfHead}
 use Rattle.infer_types.specs.Stacks.{waiting, slots}
 use Rattle.infer_types.specs.Writing.{NodeWritten}

@@ -2,7 +2,7 @@
 use Rattle.std.proofs.Common.{◌≡◌, [], ◌∷◌, sym, ap, ◌∙◌, subst, arith, append-nil}
 use Rattle.elm_type.specs.declared.node.Node.TheVariants as node
 use Rattle.type_store.specs.View.{field_view}
-use Rattle.infer_base.specs.View.{here}
+use Rattle.infer_steps.specs.View.{here}
 use Rattle.infer_types.specs.Stacks.{waiting}
 use Rattle.infer_types.specs.Writing.{NodeWritten}
 use Rattle.infer_types.proofs.ByNodes.{field_node, nothing_named, itself}

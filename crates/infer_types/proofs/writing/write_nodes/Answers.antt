@@ -1,7 +1,7 @@
 -- Nodes in turn: `begins`, `next_fits`, `next`, `ends`.
 use Rattle.std.proofs.Common.{◌≡◌, ◌-◌, length, drop, [], ◌∷◌, sym, ap, ◌∙◌, subst, arith}
 use Rattle.type_store.specs.View.{field_view}
-use Rattle.infer_base.specs.View.{here}
+use Rattle.infer_steps.specs.View.{here}
 use Rattle.infer_steps.proofs.Stepping.{all_still_live}
 use Rattle.infer_types.specs.Stacks.{waiting, names}
 use Rattle.infer_types.specs.Writing.{NodeFits, NodeWritten, NodesWritten}

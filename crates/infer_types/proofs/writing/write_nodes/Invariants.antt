@@ -1,5 +1,5 @@
 use Rattle.std.proofs.Common.{◌-◌, length, drop}
-use Rattle.infer_base.specs.View.{here}
+use Rattle.infer_steps.specs.View.{here}
 use Rattle.infer_types.specs.Stacks.{waiting}
 use Rattle.infer_types.specs.Writing.{NodesWritten}
 use Rattle.infer_types.proofs.writing.write_nodes.Given as goal

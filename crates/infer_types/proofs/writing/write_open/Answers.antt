@@ -8,7 +8,7 @@ use Rattle.type_store.specs.Store.{Row, field_slots, field_names}
 use Rattle.type_store.specs.Shape.{Ascending, AllIn, IsCell}
 use Rattle.type_store.proofs.Lacking.{all_in_itself}
 use Rattle.type_store.specs.View.{field_view}
-use Rattle.infer_base.specs.View.{here}
+use Rattle.infer_steps.specs.View.{here}
 use Rattle.infer_steps.specs.Made.{IsMade, OfRow}
 use Rattle.infer_types.specs.Stacks.{waiting, names}
 use Rattle.infer_types.specs.Writing.{NodeWritten}

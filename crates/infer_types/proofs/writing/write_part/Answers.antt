@@ -1,6 +1,6 @@
 use Rattle.std.proofs.Common.{◌≡◌, ◌+◌, ◌-◌, take, drop, subst, sym, arith}
 use Rattle.elm_type.specs.Spelling.{type_of, AreSpelled}
-use Rattle.infer_base.specs.View.{here}
+use Rattle.infer_steps.specs.View.{here}
 use Rattle.infer_types.specs.Writing.{CanWrite, Writes}
 use Rattle.infer_types.proofs.writing.write_part.Goals as goal
 

@@ -4,7 +4,7 @@ use Rattle.std.specs.Prelude.{All}
 use Rattle.elm_type.specs.declared.node.Node.TheVariants as node
 use Rattle.type_store.specs.Store.{Row, field_slots}
 use Rattle.type_store.specs.Shape.{Ascending, IsCell}
-use Rattle.infer_base.specs.View.{here}
+use Rattle.infer_steps.specs.View.{here}
 use Rattle.infer_steps.specs.Made.{IsMade, OfRow}
 use Rattle.infer_types.specs.Stacks.{waiting}
 use Rattle.infer_types.specs.Writing.{NodeWritten}

@@ -1,5 +1,5 @@
 -- Interfaces of one text are the same: `one_text`.
-use Rattle.std.proofs.Common.{◌≡◌, ℕ, List, sym, ap, ◌∙◌}
+use Rattle.std.proofs.Common.{◌≡◌, sym, ap, ◌∙◌}
 use Rattle.interface.specs.Text.{text_of}
 use Rattle.interface.specs.View.{interface_view}
 use Rattle.interface.proofs.Whole.{one_text}

@@ -1,6 +1,5 @@
 -- A type to which nothing more is added: the laws of `Onto`.
-use Rattle.std.proofs.Common.{◌≡◌, List, [], ◌∷◌, ◌++◌, sym, ap, ◌∙◌}
-use Rattle.elm_canon.specs.declared.tree.Annotation.{Annotation}
+use Rattle.std.proofs.Common.{sym, ap, ◌∙◌}
 use Rattle.elm_canon.proofs.Views.{variable_type}
 use Rattle.interface.specs.Opened.{opened_view}
 use Rattle.interface.proofs.Onto.{closed_named, closed_tuple, closed_record, closed_function}
@@ -18,7 +17,5 @@ returns-in-Tuple c = closed_tuple c.in-Tuple.types c.reversed-in-Tuple.result c.
 pub returns-in-Record : goal.returns-in-Record
 returns-in-Record c = closed_record c.in-Record.base c.in-Record.fields c.reversed_fields.result c.reversed_fields.ensures ∙ sym (ap opened_view c.in-Record.is)
 
-pub returns-in_ok-push-in-Function : goal.returns-in_ok-push-in-Function
-returns-in_ok-push-in-Function c =
-    closed_function c.in-Function.parameters c.in_ok-all-in-Function.all c.push.new.self c.in-Function.first c.in-Function.last c.in_ok-all-in-Function.ensures
-    (c.in_ok-push-in-Function.ensures.items ∙ ap (λ (ts : List Annotation). ts ++ c.in-Function.last ∷ []) c.reversed-types.ensures) ∙ sym (ap opened_view c.in-Function.is)
+pub returns-in-Function : goal.returns-in-Function
+returns-in-Function c = closed_function c.in-Function.function.types c.reversed-in-Function.result c.reversed-in-Function.ensures ∙ sym (ap opened_view c.in-Function.is)

@@ -1,5 +1,5 @@
 -- One step after another, from the last on: `onto_nothing`, `onto_last`, `onto_refused`.
-use Rattle.std.proofs.Common.{◌≡◌, List, [], Option, Some, None, sym, ap, ◌∙◌}
+use Rattle.std.proofs.Common.{List, Some, sym, ap, ◌∙◌}
 use Rattle.interface.specs.declared.step.Step.{Step}
 use Rattle.interface.specs.declared.opened.Opened.{Opened}
 use Rattle.interface.specs.Opened.{stack_view}

@@ -1,5 +1,5 @@
 -- One node after another, from the last on: `node_added`, `node_refused`.
-use Rattle.std.proofs.Common.{◌≡◌, ◌-◌, reverse, ◌∙◌, arith}
+use Rattle.std.proofs.Common.{◌-◌, reverse, ◌∙◌, arith}
 use Rattle.interface.proofs.Stacks.{shapes_at_end, node_added, node_refused, taken_is, taken_none}
 use Rattle.interface.proofs.shapes.are_of_one.Goals as goal
 

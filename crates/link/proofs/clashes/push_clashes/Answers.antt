@@ -1,6 +1,6 @@
 -- The fault of one piece more.
 use Rattle.std.proofs.Common.{rules, ◌≡◌, ◌+◌, [], ◌∷◌, ◌++◌, map, drop, refl, sym, ap, ◌∙◌, arith, append_assoc}
-use Rattle.fragments.proofs.Naming.{drop_at}
+use Rattle.link.proofs.Naming.{drop_at}
 use Rattle.link.specs.Link.{clashes, clash_at, with_port}
 use Rattle.link.specs.View.{placed_view}
 use Rattle.link.proofs.clashes.push_clashes.Goals as goal

@@ -1,6 +1,6 @@
 -- The lines of one piece more: `kept_step`.
 use Rattle.std.proofs.Common.{◌≡◌, ◌+◌, [], ◌∷◌, ◌++◌, map, drop, if◌then◌else◌, refl, sym, ap, ◌∙◌, arith, append-nil}
-use Rattle.fragments.proofs.Naming.{drop_at}
+use Rattle.link.proofs.Naming.{drop_at}
 use Rattle.link.specs.Link.{core_lines}
 use Rattle.link.specs.View.{kept_piece}
 use Rattle.link.proofs.Numbering.{kept_step}

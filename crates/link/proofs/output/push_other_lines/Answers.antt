@@ -1,6 +1,6 @@
 -- The lines of one piece more: `other_step`.
 use Rattle.std.proofs.Common.{◌≡◌, ◌+◌, [], ◌∷◌, ◌++◌, map, drop, if◌then◌else◌, refl, sym, ap, ◌∙◌, arith, append-nil}
-use Rattle.fragments.proofs.Naming.{drop_at}
+use Rattle.link.proofs.Naming.{drop_at}
 use Rattle.link.specs.Link.{other_lines}
 use Rattle.link.specs.View.{kept_piece}
 use Rattle.link.proofs.Numbering.{other_step}

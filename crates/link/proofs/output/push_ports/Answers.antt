@@ -1,7 +1,7 @@
 -- The ports of one piece more.
 use Rattle.std.proofs.Common.{◌≡◌, ◌+◌, [], ◌∷◌, ◌++◌, map, drop, sym, ap, ◌∙◌, arith, append_assoc}
-use Rattle.fragments.proofs.Naming.{drop_at}
-use Rattle.emit_text.specs.Texts.{in_view}
+use Rattle.link.proofs.Naming.{drop_at}
+use Rattle.emit_program.specs.Texts.{in_view}
 use Rattle.link.specs.Link.{ins_of, outs_of, in_of, out_of}
 use Rattle.link.specs.View.{kept_piece}
 use Rattle.link.proofs.output.push_ports.Goals as goal

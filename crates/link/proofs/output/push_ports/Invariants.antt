@@ -1,5 +1,5 @@
 use Rattle.std.proofs.Common.{◌≡◌, ◌++◌, map, drop}
-use Rattle.emit_text.specs.Texts.{in_view}
+use Rattle.emit_program.specs.Texts.{in_view}
 use Rattle.link.specs.Link.{ins_of, outs_of}
 use Rattle.link.specs.View.{kept_piece}
 use Rattle.link.proofs.output.push_ports.Given as goal

@@ -1,6 +1,6 @@
 use Rattle.std.proofs.Common.{◌≡◌, ◌++◌, map, take}
 use Rattle.std.specs.Prelude.{string_bytes}
-use Rattle.fragments.specs.View.{piece_view}
+use Rattle.link.specs.FragmentsView.{piece_view}
 use Rattle.link.specs.View.{placed_view}
 use Rattle.link.proofs.pieces.push_pieces.Given as goal
 

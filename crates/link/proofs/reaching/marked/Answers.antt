@@ -1,6 +1,6 @@
 -- One place more: `kept_step`.
 use Rattle.std.proofs.Common.{◌≡◌, ◌+◌, ◌∷◌, ◌++◌, false, length, map, drop, get_or, if◌then◌else◌, sym, ap, ◌∙◌, arith}
-use Rattle.fragments.proofs.Naming.{drop_at}
+use Rattle.link.proofs.Naming.{drop_at}
 use Rattle.link.specs.Reached.{kept}
 use Rattle.link.specs.View.{placed_view}
 use Rattle.link.proofs.Numbering.{kept_step, mark_at, place_after}

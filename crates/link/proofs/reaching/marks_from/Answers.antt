@@ -4,7 +4,7 @@ use Rattle.std.specs.Prelude.{IfSome}
 use Rattle.std.specs.List.{range_with_len}
 use Rattle.std.proofs.lemmas.List.{length-map}
 use Rattle.decl_groups.specs.Groups.{plain}
-use Rattle.binding_groups.specs.InOrder.{reaches}
+use Rattle.decl_groups.specs.InOrder.{reaches}
 use Rattle.link.specs.Reached.{reaches_from}
 use Rattle.link.proofs.Numbering.{none_marked}
 use Rattle.link.proofs.reaching.marks_from.Goals as goal

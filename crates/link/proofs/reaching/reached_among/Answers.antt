@@ -4,7 +4,7 @@ use Rattle.std.specs.List.{All, range_with_len}
 use Rattle.std.proofs.lemmas.List.{length-map}
 use Rattle.std.proofs.lemmas.List.FromFn.{length-map-range_with_len}
 use Rattle.decl_groups.specs.Groups.{plain}
-use Rattle.fragments.specs.Names.{TopName}
+use Rattle.link.specs.Names.{TopName}
 use Rattle.link.specs.Link.{Placed}
 use Rattle.link.specs.Reached.{is_reached, reaches_from, place_of, places_used}
 use Rattle.link.specs.View.{placed_view}

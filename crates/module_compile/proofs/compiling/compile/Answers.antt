@@ -1,6 +1,6 @@
 use Rattle.std.proofs.Common.{List, ℕ, None, Bor, option_map, sym, subst}
 use Rattle.module_made.specs.Made.{Made, Bad, too_long}
-use Rattle.module_phases.specs.View.{around_view}
+use Rattle.module_compile.specs.ModulePhasesView.{around_view}
 use Rattle.module_compile.proofs.compiling.compile.Goals as goal
 
 pub returns-in_ok-too_large-in-None-clause-made : goal.returns-in_ok-too_large-in-None-clause-made

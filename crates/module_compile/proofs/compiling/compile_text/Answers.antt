@@ -1,8 +1,8 @@
 use Rattle.std.proofs.Common.{subst, arith}
 use Rattle.elm_canon.specs.View.{module_view}
 use Rattle.canon_env.specs.Shown.{shown_view}
-use Rattle.module_phases.specs.Phases.{Resolves, Tells}
-use Rattle.module_phases.specs.View.{around_view}
+use Rattle.module_compile.specs.Phases.{Resolves, Tells}
+use Rattle.module_compile.specs.ModulePhasesView.{around_view}
 use Rattle.module_compile.proofs.After.{all_sound}
 use Rattle.module_compile.proofs.compiling.compile_text.Goals as goal
 

@@ -3,7 +3,7 @@ use Rattle.elm_canon.specs.View.{module_view}
 use Rattle.canon_env.specs.Shown.{shown_view}
 use Rattle.canon_module.specs.declared.module.Resolved.{Resolved}
 use Rattle.module_made.specs.Made.{Bad, fault_in, type_finding}
-use Rattle.module_phases.specs.View.{around_view}
+use Rattle.module_compile.specs.ModulePhasesView.{around_view}
 use Rattle.module_compile.specs.declared.typing.Typed.TheVariants.{Fault}
 use Rattle.module_compile.specs.Typing.{TellsTypes, AfterNames}
 use Rattle.module_compile.proofs.After.{mistyped_after}

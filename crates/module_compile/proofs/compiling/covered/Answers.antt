@@ -2,11 +2,11 @@ use Rattle.std.proofs.Common.{◌≡◌, map, sym, ap, ◌∙◌, subst, arith}
 use Rattle.elm_canon.specs.View.{module_view}
 use Rattle.canon_env.specs.Shown.{shown_view}
 use Rattle.canon_module.specs.declared.module.Resolved.{Resolved}
-use Rattle.canon_sites.specs.Order.{IsInOrder}
-use Rattle.pattern_faults.specs.Faults as patterns
+use Rattle.canon_env.specs.Order.{IsInOrder}
+use Rattle.pattern_check.specs.Faults as patterns
 use Rattle.infer.specs.Types.{schemes_of}
 use Rattle.module_made.specs.Made.{Bad, fault_in}
-use Rattle.module_phases.specs.View.{around_view}
+use Rattle.module_compile.specs.ModulePhasesView.{around_view}
 use Rattle.module_compile.specs.Typing.{AfterNames}
 use Rattle.module_compile.proofs.After.{uncovered_after, fine_after}
 use Rattle.module_compile.proofs.compiling.covered.Goals as goal

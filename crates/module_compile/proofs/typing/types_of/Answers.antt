@@ -1,6 +1,6 @@
 use Rattle.std.proofs.Common.{sym, subst}
-use Rattle.infer_base.specs.Ready.{AreWritten}
-use Rattle.module_phases.specs.View.{around_view}
+use Rattle.infer_steps.specs.Ready.{AreWritten}
+use Rattle.module_compile.specs.ModulePhasesView.{around_view}
 use Rattle.module_compile.proofs.typing.types_of.Goals as goal
 
 pub infer-requires-clause-env : goal.infer-requires-clause-env

@@ -1,6 +1,6 @@
 -- One name after another: `one_number`.
 use Rattle.std.proofs.Common.{List, ℕ, codes, take}
-use Rattle.project_build.specs.Modules.{default_names}
+use Rattle.project_parts.specs.Modules.{default_names}
 use Rattle.project_parts.specs.View.{number_at}
 use Rattle.project_parts.proofs.Rows.{one_number}
 use Rattle.project_parts.proofs.graph.default_numbers.Goals as goal

@@ -1,7 +1,7 @@
 -- The numbers are those of the parts: `rows_same`.
 use Rattle.std.proofs.Common.{map, ◌∙◌}
 use Rattle.std.proofs.lemmas.Result.{IfOk-weaker}
-use Rattle.project_build.specs.Modules.{number_of}
+use Rattle.project_parts.specs.Modules.{number_of}
 use Rattle.project_parts.specs.View.{part_view, number_at}
 use Rattle.project_parts.proofs.Rows.{rows_same}
 use Rattle.project_parts.proofs.graph.graph_of.Goals as goal

@@ -2,7 +2,7 @@
 use Rattle.std.proofs.Common.{◌≡◌, ◌+◌, ◌-◌, ◌<◌, length, map, drop, ap, ◌∙◌, arith}
 use Rattle.std.specs.List.{position_from}
 use Rattle.std.specs.Str.{bytes_eq}
-use Rattle.project_build.specs.Modules.{name_of}
+use Rattle.project_parts.specs.Modules.{name_of}
 use Rattle.project_parts.specs.View.{part_view, number_at}
 use Rattle.project_parts.proofs.Rows.{number_more, from_start}
 use Rattle.project_parts.proofs.graph.numbers_of.Goals as goal

@@ -1,7 +1,7 @@
 use Rattle.std.specs.Prelude.{◌≡◌, ℕ, List, map, drop}
 use Rattle.std.specs.List.{position_from}
 use Rattle.std.specs.Str.{bytes_eq}
-use Rattle.project_build.specs.Modules.{name_of}
+use Rattle.project_parts.specs.Modules.{name_of}
 use Rattle.project_parts.specs.View.{part_view, number_at}
 use Rattle.project_parts.proofs.graph.numbers_of.Given as goal
 

@@ -2,9 +2,9 @@
 use Rattle.std.proofs.Common.{◌++◌, map, take, sym, ap, ◌∙◌, append_assoc}
 use Rattle.std.specs.Prelude.{flat_map}
 use Rattle.std.specs.List.{filter_map}
-use Rattle.module_graph.proofs.Uses.{next_front}
-use Rattle.module_walk.specs.View.{import_view}
-use Rattle.project_build.specs.Modules.{one_name}
+use Rattle.import_graph.proofs.Uses.{next_front}
+use Rattle.import_graph.specs.ModuleWalkView.{import_view}
+use Rattle.project_parts.specs.Modules.{one_name}
 use Rattle.project_parts.specs.View.{number_at}
 use Rattle.project_parts.proofs.Rows.{row_more}
 use Rattle.project_parts.proofs.graph.push_imports.Goals as goal

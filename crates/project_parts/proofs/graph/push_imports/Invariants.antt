@@ -1,7 +1,7 @@
 use Rattle.std.specs.Prelude.{◌≡◌, ◌++◌, map, take, flat_map}
 use Rattle.std.specs.List.{filter_map}
-use Rattle.module_walk.specs.View.{import_view}
-use Rattle.project_build.specs.Modules.{one_name}
+use Rattle.import_graph.specs.ModuleWalkView.{import_view}
+use Rattle.project_parts.specs.Modules.{one_name}
 use Rattle.project_parts.specs.View.{number_at}
 use Rattle.project_parts.proofs.graph.push_imports.Given as goal
 

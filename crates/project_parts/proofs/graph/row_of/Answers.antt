@@ -2,8 +2,8 @@
 use Rattle.std.proofs.Common.{[], ◌++◌, map, ap, ◌∙◌}
 use Rattle.std.specs.Prelude.{if◌then◌else◌, flat_map}
 use Rattle.std.specs.List.{filter_map}
-use Rattle.module_walk.specs.View.{import_view}
-use Rattle.project_build.specs.Modules.{default_names, one_name}
+use Rattle.import_graph.specs.ModuleWalkView.{import_view}
+use Rattle.project_parts.specs.Modules.{default_names, one_name}
 use Rattle.project_parts.specs.View.{number_at}
 use Rattle.project_parts.proofs.Rows.{row_is}
 use Rattle.project_parts.proofs.graph.row_of.Goals as goal

@@ -3,8 +3,8 @@ use Rattle.std.proofs.Common.{[], ◌∷◌, ◌++◌, map, take, sym, ap, ◌�
 use Rattle.std.specs.List.{filter_map}
 use Rattle.std.proofs.lemmas.List.{map-append}
 use Rattle.decl_groups.specs.Groups.{plain}
-use Rattle.module_graph.proofs.Uses.{next_front, row_pushed}
-use Rattle.project_build.specs.Modules.{Part, imported_names}
+use Rattle.import_graph.proofs.Uses.{next_front, row_pushed}
+use Rattle.project_parts.specs.Modules.{Part, imported_names}
 use Rattle.project_parts.specs.View.{part_view, number_at}
 use Rattle.project_parts.proofs.graph.rows_of.Goals as goal
 

@@ -1,7 +1,7 @@
 use Rattle.std.specs.Prelude.{◌≡◌, map, take}
 use Rattle.std.specs.List.{filter_map}
 use Rattle.decl_groups.specs.Groups.{plain}
-use Rattle.project_build.specs.Modules.{imported_names}
+use Rattle.project_parts.specs.Modules.{imported_names}
 use Rattle.project_parts.specs.View.{part_view, number_at}
 use Rattle.project_parts.proofs.graph.rows_of.Given as goal
 

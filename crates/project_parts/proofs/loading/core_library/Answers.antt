@@ -1,8 +1,8 @@
 -- One module more: `new_name`. At the end: `all_before`.
 use Rattle.std.proofs.Common.{[], ◌∷◌, ◌++◌, map, sym, ap, subst, ◌∙◌, append_assoc, arith}
 use Rattle.core_modules.specs.Library as core
-use Rattle.module_walk.specs.View.{module_view}
-use Rattle.project_build.specs.Modules.{AreCoreModules, names_in}
+use Rattle.import_graph.specs.ModuleWalkView.{module_view}
+use Rattle.project_parts.specs.Modules.{AreCoreModules, names_in}
 use Rattle.project_parts.proofs.Adding.{new_name, all_before}
 use Rattle.project_parts.proofs.loading.core_library.Goals as goal
 

@@ -1,9 +1,9 @@
 -- All imports, and one more.
 use Rattle.std.proofs.Common.{[], ◌∷◌, ◌++◌, map, take, sym, ap, ◌∙◌, arith}
 use Rattle.std.proofs.lemmas.List.{map-append}
-use Rattle.module_graph.proofs.Uses.{next_front}
-use Rattle.module_walk.specs.View.{import_view}
-use Rattle.module_walk.specs.Words.{word_view}
+use Rattle.import_graph.proofs.Uses.{next_front}
+use Rattle.import_graph.specs.ModuleWalkView.{import_view}
+use Rattle.import_graph.specs.Words.{word_view}
 use Rattle.project_parts.specs.Library.{import_among}
 use Rattle.project_parts.proofs.Rows.{take_all}
 use Rattle.project_parts.proofs.loading.imports_among.Goals as goal

@@ -1,6 +1,6 @@
 use Rattle.std.specs.Prelude.{◌≡◌, map, take}
-use Rattle.module_walk.specs.View.{import_view}
-use Rattle.module_walk.specs.Words.{word_view}
+use Rattle.import_graph.specs.ModuleWalkView.{import_view}
+use Rattle.import_graph.specs.Words.{word_view}
 use Rattle.project_parts.specs.Library.{import_among}
 use Rattle.project_parts.proofs.loading.imports_among.Given as goal
 

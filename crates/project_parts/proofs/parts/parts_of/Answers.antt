@@ -2,9 +2,9 @@
 use Rattle.std.proofs.Common.{◌++◌, map, ap, ◌∙◌}
 use Rattle.std.specs.Prelude.{slice_get}
 use Rattle.std.specs.List.{filter_map}
-use Rattle.module_graph.specs.View.{graph_modules}
-use Rattle.module_walk.specs.View.{module_view}
-use Rattle.project_build.specs.Modules.{core_part, project_part}
+use Rattle.import_graph.specs.ModuleGraphView.{graph_modules}
+use Rattle.import_graph.specs.ModuleWalkView.{module_view}
+use Rattle.project_parts.specs.Modules.{core_part, project_part}
 use Rattle.project_parts.specs.View.{part_view}
 use Rattle.project_parts.proofs.parts.parts_of.Goals as goal
 

@@ -1,6 +1,6 @@
 use Rattle.std.specs.Prelude.{◌≡◌, ◌++◌, map, take}
-use Rattle.module_walk.specs.View.{module_view}
-use Rattle.project_build.specs.Modules.{core_part}
+use Rattle.import_graph.specs.ModuleWalkView.{module_view}
+use Rattle.project_parts.specs.Modules.{core_part}
 use Rattle.project_parts.specs.View.{part_view}
 use Rattle.project_parts.proofs.parts.push_core.Given as goal
 

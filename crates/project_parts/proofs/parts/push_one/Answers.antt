@@ -3,9 +3,9 @@ use Rattle.std.proofs.Common.{◌++◌, List, ℕ, map, sym, ap, ◌∙◌, appe
 use Rattle.std.specs.Prelude.{option_map, option_to_list}
 use Rattle.std.proofs.lemmas.List.{map-append}
 use Rattle.std.proofs.lemmas.Option.{slice_get-map}
-use Rattle.module_walk.specs.View.{module_view}
-use Rattle.module_walk.specs.declared.walk.Module.{Module}
-use Rattle.project_build.specs.Modules.{project_part}
+use Rattle.import_graph.specs.ModuleWalkView.{module_view}
+use Rattle.import_graph.specs.declared.walk.Module.{Module}
+use Rattle.project_parts.specs.Modules.{project_part}
 use Rattle.project_parts.specs.View.{part_view}
 use Rattle.project_parts.proofs.Placing.{image}
 use Rattle.project_parts.proofs.parts.push_one.Goals as goal

@@ -1,7 +1,7 @@
 -- One module more: `project_more`.
 use Rattle.std.proofs.Common.{map, arith}
 use Rattle.std.specs.Prelude.{slice_get}
-use Rattle.module_graph.specs.View.{graph_modules}
+use Rattle.import_graph.specs.ModuleGraphView.{graph_modules}
 use Rattle.project_parts.specs.View.{part_view}
 use Rattle.project_parts.proofs.Rows.{project_more}
 use Rattle.project_parts.proofs.parts.push_project.Goals as goal

@@ -1,7 +1,7 @@
 use Rattle.std.specs.Prelude.{◌≡◌, ◌++◌, map, take, slice_get}
 use Rattle.std.specs.List.{filter_map}
-use Rattle.module_graph.specs.View.{graph_modules}
-use Rattle.project_build.specs.Modules.{project_part}
+use Rattle.import_graph.specs.ModuleGraphView.{graph_modules}
+use Rattle.project_parts.specs.Modules.{project_part}
 use Rattle.project_parts.specs.View.{part_view}
 use Rattle.project_parts.proofs.parts.push_project.Given as goal
 

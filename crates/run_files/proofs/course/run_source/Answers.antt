@@ -1,8 +1,8 @@
 -- The run of a program's text, once it was read: `run_of_text`, `stop_of_text`, `refused_text`.
 use Rattle.std.proofs.Common.{subst}
 use Rattle.std.proofs.lemmas.Result.{IfOk-weaker, IfErr-weaker}
-use Rattle.js_reader.specs.Read.{IsRefused, place_view}
-use Rattle.js_reader.specs.declared.refusal.Refusal.TheVariants.{At}
+use Rattle.js_scope.specs.Read.{IsRefused, place_view}
+use Rattle.js_scope.specs.declared.refusal.Refusal.TheVariants.{At}
 use Rattle.run_files.proofs.Sources.{run_of_text, stop_of_text, refused_text}
 use Rattle.run_files.proofs.course.run_source.Goals as goal
 

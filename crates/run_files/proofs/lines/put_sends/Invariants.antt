@@ -1,6 +1,6 @@
 use Rattle.std.proofs.Common.{◌≡◌, ◌++◌, drop}
-use Rattle.js_host.specs.Stages.{sends_view}
-use Rattle.run_text.specs.Told.{sends_text}
+use Rattle.js_run.specs.Stages.{sends_view}
+use Rattle.run_files.specs.Told.{sends_text}
 use Rattle.run_files.proofs.lines.put_sends.Given as goal
 
 abbrev pub invariant-loop-sent : goal.invariant-loop-sent

@@ -2,7 +2,7 @@
 use Rattle.std.proofs.Common.{◌+◌, map, drop, sym, ◌∙◌}
 use Rattle.js_run.specs.Sessions.{told}
 use Rattle.js_run.specs.Views.{app_view, machine_of}
-use Rattle.run_text.specs.View.{input_view}
+use Rattle.run_files.specs.View.{input_view}
 use Rattle.run_files.proofs.Giving.{next_given, given_on, given_last, given_part}
 use Rattle.run_files.proofs.session.give_all.Goals as goal
 

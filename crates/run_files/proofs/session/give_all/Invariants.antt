@@ -1,7 +1,7 @@
 use Rattle.std.proofs.Common.{◌≡◌, map, drop}
 use Rattle.js_run.specs.Sessions.{told}
 use Rattle.js_run.specs.Views.{app_view, machine_of}
-use Rattle.run_text.specs.View.{input_view}
+use Rattle.run_files.specs.View.{input_view}
 use Rattle.run_files.specs.Steps.{IsRunning}
 use Rattle.run_files.proofs.Remains.{Remains}
 use Rattle.run_files.proofs.session.give_all.Given as goal

@@ -3,9 +3,9 @@ use Rattle.std.proofs.Common.{◌≡◌, map, sym, ap, ◌∙◌, subst}
 use Rattle.std.proofs.lemmas.Result.{IfOk-weaker, IfErr-weaker}
 use Rattle.elm_files.specs.Texts.{longer}
 use Rattle.js_run.specs.Sessions.{told}
-use Rattle.run_text.specs.Told.{told_text}
+use Rattle.run_files.specs.Told.{told_text}
 use Rattle.js_run.specs.Views.{answer_view, app_view, machine_of}
-use Rattle.run_text.specs.View.{input_view}
+use Rattle.run_files.specs.View.{input_view}
 use Rattle.run_files.specs.Steps.{start_text, PutsPart}
 use Rattle.run_files.proofs.Giving.{started_last, started_told, started_part, start_part}
 use Rattle.run_files.proofs.session.go_on.Goals as goal

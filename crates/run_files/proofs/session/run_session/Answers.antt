@@ -6,8 +6,8 @@ use Rattle.wire_value.specs.View.{wire_view}
 use Rattle.js_code.specs.Program.{program_view}
 use Rattle.js_meaning.specs.Run.{j_machine}
 use Rattle.js_run.specs.Views.{answer_view, app_view, machine_of}
-use Rattle.run_text.specs.Told.{told_text}
-use Rattle.run_text.specs.View.{input_view}
+use Rattle.run_files.specs.Told.{told_text}
+use Rattle.run_files.specs.View.{input_view}
 use Rattle.run_files.specs.Steps.{PutsPart, Tells}
 use Rattle.run_files.proofs.Giving.{session_begun, session_trace}
 use Rattle.run_files.proofs.session.run_session.Goals as goal

@@ -1,6 +1,6 @@
 -- The items are computed.
 use Rattle.std.specs.Prelude.{refl}
-use Rattle.binding_groups.specs.InOrder.{ordered_groups}
+use Rattle.decl_groups.specs.InOrder.{ordered_groups}
 use Rattle.type_examples.proofs.laws.item_examples.Goals as goal
 
 pub returns-clause-copies : goal.returns-clause-copies

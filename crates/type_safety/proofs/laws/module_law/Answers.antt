@@ -1,4 +1,4 @@
-use Rattle.exhaustive_matches.proofs.Sound.{steps_keep_types}
+use Rattle.type_safety.proofs.Sound.{steps_keep_types}
 use Rattle.type_items.specs.Modules.{known_in, module_scope}
 use Rattle.typed_values.proofs.Envs.{fits_known}
 use Rattle.type_safety.proofs.Modules.{given_serves}

@@ -3,7 +3,7 @@ use Rattle.std.proofs.Common.{[], sym, subst, map}
 use Rattle.type_store.specs.View.{field_view}
 use Rattle.elm_type.specs.View.{end_view}
 use Rattle.elm_type.specs.Types.{NoField, Record}
-use Rattle.type_reading.specs.Reading.{read_in}
+use Rattle.type_schemes.specs.Reading.{read_in}
 use Rattle.type_schemes.specs.Rows.{Adds, Steps, older_in}
 use Rattle.type_schemes.proofs.Along.{adds_none, adds_on, row_done, row_record}
 use Rattle.type_schemes.proofs.rows.gather.Goals as goal

@@ -1,7 +1,7 @@
 use Rattle.std.proofs.Common.{[], map}
 use Rattle.type_store.specs.View.{field_view}
-use Rattle.type_order.specs.Order.{IsListed}
-use Rattle.type_reading.specs.Reading.{read_in}
+use Rattle.type_schemes.specs.Order.{IsListed}
+use Rattle.type_schemes.specs.Reading.{read_in}
 use Rattle.type_schemes.specs.Rows.{Adds, IsRecord, older_in, width}
 use Rattle.type_schemes.proofs.rows.gather.Given as goal
 

@@ -5,7 +5,7 @@ use Rattle.type_store.specs.Store.{slot_at}
 use Rattle.type_store.specs.declared.slot.Cell.TheVariants as cell
 use Rattle.type_store.specs.View as stored
 use Rattle.type_store.proofs.Undoing.{length_view}
-use Rattle.type_order.proofs.Ends.{end_is}
+use Rattle.type_schemes.proofs.Ends.{end_is}
 use Rattle.type_schemes.specs.Rows.{Steps, older_in}
 use Rattle.type_schemes.specs.declared.rows.Onward.TheVariants.{Ends}
 use Rattle.elm_type.specs.declared.node.Leaf.TheVariants as leaf

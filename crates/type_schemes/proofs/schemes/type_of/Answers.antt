@@ -1,7 +1,7 @@
 -- What is written is read again: `spelled_by`, `spelled_type`.
 use Rattle.std.proofs.Common.{sym, arith}
 use Rattle.elm_type.proofs.Reading.{spelled_by, spelled_type}
-use Rattle.type_reading.specs.Bases.{type_in}
+use Rattle.type_schemes.specs.Bases.{type_in}
 use Rattle.type_schemes.specs.Rows.{older_in}
 use Rattle.type_schemes.proofs.schemes.type_of.Goals as goal
 

@@ -1,9 +1,9 @@
 use Rattle.std.proofs.Common.{length}
 use Rattle.elm_type.specs.Spelling.{spell}
-use Rattle.type_reading.specs.Bases.{type_in}
+use Rattle.type_schemes.specs.Bases.{type_in}
 use Rattle.type_schemes.specs.Rows.{older_in}
 use Rattle.type_schemes.specs.Tasks.{all_nodes, tasks_of}
-use Rattle.type_schemes.proofs.Nodes.{Writing}
+use Rattle.type_schemes.proofs.TypeSchemesNodes.{Writing}
 use Rattle.type_schemes.proofs.writing.nodes.Given as goal
 
 abbrev pub invariant-loop-task : goal.invariant-loop-task

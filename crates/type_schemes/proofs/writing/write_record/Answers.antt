@@ -2,11 +2,11 @@
 use Rattle.std.proofs.Common.{◌∷◌, ◌++◌, [], ◌∙◌, ap, length, map}
 use Rattle.elm_type.specs.Spelling.{record_node, spell}
 use Rattle.elm_type.specs.View.{end_view}
-use Rattle.type_reading.specs.Reading.{read_in}
-use Rattle.type_reading.specs.Bases.{type_in}
+use Rattle.type_schemes.specs.Reading.{read_in}
+use Rattle.type_schemes.specs.Bases.{type_in}
 use Rattle.type_schemes.specs.Rows.{older_in}
 use Rattle.type_schemes.specs.declared.writing.Task.TheVariants.{Part}
-use Rattle.type_schemes.proofs.Nodes.{writes_one, row_written, known_fields}
+use Rattle.type_schemes.proofs.TypeSchemesNodes.{writes_one, row_written, known_fields}
 use Rattle.type_schemes.proofs.writing.write_record.Goals as goal
 
 pub returns : goal.returns

@@ -7,17 +7,17 @@ use Rattle.type_store.specs.Store as plain
 use Rattle.type_store.specs.Store.{slot_at}
 use Rattle.type_store.specs.declared.slot.Cell.TheVariants as cell
 use Rattle.type_store.specs.View as stored
-use Rattle.type_order.specs.Order.{IsListed}
-use Rattle.type_order.proofs.Ends.{end_is}
-use Rattle.type_reading.specs.Reading.{read_in}
-use Rattle.type_reading.specs.Bases.{type_in}
+use Rattle.type_schemes.specs.Order.{IsListed}
+use Rattle.type_schemes.proofs.Ends.{end_is}
+use Rattle.type_schemes.specs.Reading.{read_in}
+use Rattle.type_schemes.specs.Bases.{type_in}
 use Rattle.type_schemes.specs.Rows.{is_row, older_in}
 use Rattle.type_schemes.specs.Tasks.{Writes}
 use Rattle.type_schemes.specs.declared.writing.Task.TheVariants.{Whole}
 use Rattle.type_schemes.specs.declared.writing.Writer.{Writer}
 use Rattle.type_schemes.proofs.Along.{never_bound}
 use Rattle.type_schemes.proofs.Listed.{cell_read}
-use Rattle.type_schemes.proofs.Nodes.{writes_one, open_written, constant_written, built_written, built_known}
+use Rattle.type_schemes.proofs.TypeSchemesNodes.{writes_one, open_written, constant_written, built_written, built_known}
 use Rattle.type_schemes.proofs.writing.write_type.Goals as goal
 
 pub write_record-requires-clause-listed : goal.write_record-requires-clause-listed

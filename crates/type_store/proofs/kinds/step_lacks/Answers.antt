@@ -1,5 +1,5 @@
 use Rattle.std.proofs.Common.{◌∙◌, sym, ap}
-use Rattle.ground_types.specs.Ground.{contains}
+use Rattle.elm_type.specs.Ground.{contains}
 use Rattle.type_store.specs.View.{store_view, work_view}
 use Rattle.type_store.proofs.AtSlots.{at_lack_there, at_lack_clash, at_lack_step}
 use Rattle.type_store.proofs.kinds.step_lacks.Goals as goal

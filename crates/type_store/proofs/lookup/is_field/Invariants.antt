@@ -1,5 +1,5 @@
 use Rattle.std.proofs.Common.{◌≡◌, take, map, false}
-use Rattle.ground_types.specs.Ground.{contains}
+use Rattle.elm_type.specs.Ground.{contains}
 use Rattle.type_store.specs.Store.{field_names}
 use Rattle.type_store.specs.View.{field_view}
 use Rattle.type_store.proofs.lookup.is_field.Given as goal

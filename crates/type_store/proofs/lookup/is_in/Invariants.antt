@@ -1,5 +1,5 @@
 use Rattle.std.proofs.Common.{◌≡◌, take, false}
-use Rattle.ground_types.specs.Ground.{contains}
+use Rattle.elm_type.specs.Ground.{contains}
 use Rattle.type_store.proofs.lookup.is_in.Given as goal
 
 abbrev pub invariant-loop-other : goal.invariant-loop-other

@@ -3,9 +3,9 @@ use Rattle.std.proofs.Common.{map, ap, ◌∙◌, subst}
 use Rattle.std.proofs.lemmas.List.{length-map}
 use Rattle.std.proofs.lemmas.Result.{IfOk-weaker}
 use Rattle.decl_groups.specs.Groups.{plain}
-use Rattle.canon_blocks.specs.Blocks.{groups_in}
-use Rattle.canon_blocks.specs.Kept.{IsOrderOf, made_view}
-use Rattle.canon_pattern.proofs.Meaning.{on_ok}
+use Rattle.canon_expr.specs.Blocks.{groups_in}
+use Rattle.canon_expr.specs.Kept.{IsOrderOf, made_view}
+use Rattle.canon_expr.proofs.Meaning.{on_ok}
 use Rattle.canon_expr.proofs.gathering.Gathered.finish.Goals as goal
 
 pub returns-clause-groups : goal.returns-clause-groups

@@ -1,7 +1,7 @@
 -- One parameter more: `filling_next`.
 use Rattle.std.proofs.Common.{refl, ◌++◌, length, drop, sym, ap, ◌∙◌, subst}
 use Rattle.elm_canon.specs.View.{annotation_view, types_view}
-use Rattle.canon_sites.specs.Expanding as sites
+use Rattle.canon_env.specs.Expanding as sites
 use Rattle.canon_type.specs.Filling.{Fills, entry}
 use Rattle.canon_type.proofs.Fillings.{filling_next, filling_none, drop_next}
 use Rattle.canon_type.proofs.filling.Filling.of.Goals as goal

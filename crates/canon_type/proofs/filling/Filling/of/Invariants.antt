@@ -1,6 +1,6 @@
 use Rattle.std.proofs.Common.{◌≡◌, length, drop}
 use Rattle.elm_canon.specs.View.{types_view}
-use Rattle.canon_sites.specs.Expanding as sites
+use Rattle.canon_env.specs.Expanding as sites
 use Rattle.canon_type.specs.Filling.{Fills}
 use Rattle.canon_type.proofs.filling.Filling.of.Given as goal
 

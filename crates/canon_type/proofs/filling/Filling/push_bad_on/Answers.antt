@@ -4,7 +4,7 @@ use Rattle.std.specs.Prelude.{option_map, option_copied}
 use Rattle.std.proofs.lemmas.Result.{on_ok_weaker}
 use Rattle.elm_canon.specs.Tree.{field_types_of}
 use Rattle.elm_canon.specs.View.{annotation_view, field_type_view}
-use Rattle.canon_sites.specs.Expanding.{bad_on}
+use Rattle.canon_env.specs.Expanding.{bad_on}
 use Rattle.canon_type.proofs.Fillings.{found_in_filling}
 use Rattle.canon_type.proofs.filling.Filling.push_bad_on.Goals as goal
 

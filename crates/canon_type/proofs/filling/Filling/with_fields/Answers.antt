@@ -6,7 +6,7 @@ use Rattle.elm_canon.specs.Tree as plain
 use Rattle.elm_canon.specs.Tree.{field_types_of}
 use Rattle.elm_canon.specs.View.{annotation_view, field_type_view}
 use Rattle.elm_canon.proofs.Views.{type_of_record}
-use Rattle.canon_sites.specs.Expanding.{extended}
+use Rattle.canon_env.specs.Expanding.{extended}
 use Rattle.canon_type.proofs.Fillings.{found_in_filling}
 use Rattle.canon_type.proofs.filling.Filling.with_fields.Goals as goal
 

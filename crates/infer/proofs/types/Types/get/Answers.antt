@@ -2,7 +2,7 @@ use Rattle.std.proofs.Common.{sym, ap, ◌∙◌}
 use Rattle.std.specs.Prelude.{option_map}
 use Rattle.indexmap.specs.IndexMap.{get}
 use Rattle.elm_type.specs.View.{scheme_view}
-use Rattle.infer_base.specs.Keys.{same_pair}
+use Rattle.infer_steps.specs.Keys.{same_pair}
 use Rattle.infer.specs.Types.{schemes_of}
 use Rattle.infer.proofs.Tables.{found_is}
 use Rattle.infer.proofs.types.Types.get.Goals as goal

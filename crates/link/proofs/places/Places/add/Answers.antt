@@ -1,7 +1,7 @@
 -- A name that is known keeps its place, and another one gets this one: `known_already`, `known_now`.
 use Rattle.std.proofs.Common.{Some, if◌then◌else◌, sym, ap, ◌∙◌}
 use Rattle.indexmap.specs.IndexMap.{get}
-use Rattle.fragments.specs.Names.{same_top}
+use Rattle.link.specs.Names.{same_top}
 use Rattle.link.proofs.Numbering.{known_already, known_now}
 use Rattle.link.proofs.places.Places.add.Goals as goal
 

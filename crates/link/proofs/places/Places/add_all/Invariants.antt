@@ -1,5 +1,5 @@
 use Rattle.std.proofs.Common.{◌≡◌, List, [], ◌∷◌, ◌++◌, length, take}
-use Rattle.fragments.specs.Names.{TopName}
+use Rattle.link.specs.Names.{TopName}
 use Rattle.link.specs.Kept.{Numbered}
 use Rattle.link.proofs.places.Places.add_all.Given as goal
 

@@ -1,7 +1,7 @@
 use Rattle.std.proofs.Common.{◌≡◌, ◌<◌, List, length, map, take}
 use Rattle.std.specs.List.{All}
 use Rattle.decl_groups.specs.Groups.{plain}
-use Rattle.fragments.specs.Names.{TopName}
+use Rattle.link.specs.Names.{TopName}
 use Rattle.link.specs.Kept.{Numbered}
 use Rattle.link.specs.Reached.{places_used}
 use Rattle.link.specs.View.{placed_view}

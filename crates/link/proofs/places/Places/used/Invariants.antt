@@ -1,6 +1,6 @@
 use Rattle.std.proofs.Common.{◌≡◌, ◌<◌, List, length, take}
 use Rattle.std.specs.List.{All, filter_map}
-use Rattle.fragments.specs.Names.{TopName}
+use Rattle.link.specs.Names.{TopName}
 use Rattle.link.specs.Kept.{Numbered}
 use Rattle.link.specs.Reached.{place_of}
 use Rattle.link.proofs.places.Places.used.Given as goal

@@ -1,6 +1,6 @@
 use Rattle.std.proofs.Common.{[], map, sym, subst}
-use Rattle.module_walk.specs.View.{module_view}
-use Rattle.project_build.specs.Modules.{AreCoreModules}
+use Rattle.import_graph.specs.ModuleWalkView.{module_view}
+use Rattle.project_parts.specs.Modules.{AreCoreModules}
 use Rattle.project_parts.proofs.loading.Library.empty.Goals as goal
 
 pub returns : goal.returns

@@ -2,9 +2,9 @@
 use Rattle.std.proofs.Common.{[], ◌∷◌, ◌++◌, map, sym, ap, subst, ◌∙◌}
 use Rattle.std.proofs.lemmas.List.{map-append}
 use Rattle.core_modules.specs.Library as core
-use Rattle.module_walk.specs.Modules.{Source}
-use Rattle.module_walk.specs.View.{module_view}
-use Rattle.project_build.specs.Modules.{AreCoreModules}
+use Rattle.import_graph.specs.Modules.{Source}
+use Rattle.import_graph.specs.ModuleWalkView.{module_view}
+use Rattle.project_parts.specs.Modules.{AreCoreModules}
 use Rattle.project_parts.specs.Library.{IsNext}
 use Rattle.project_parts.proofs.Adding.{core_more, next_is, names_more}
 use Rattle.project_parts.proofs.loading.Library.push.Goals as goal

@@ -1,8 +1,0 @@
-use Rattle.std.proofs.Common.{◌≡◌, ◌++◌, map, take}
-use Rattle.std.specs.List.{flat_map}
-use Rattle.annotation_schemes.specs.Names.{part_view, title_nodes}
-use Rattle.annotation_schemes.proofs.fields.push_sorted.Given as goal
-
-abbrev pub invariant-loop-part : goal.invariant-loop-part
-invariant-loop-part l =
-    l.nodes.items ≡ l.fn.nodes.items ++ flat_map title_nodes (map part_view (take l.part-index l.part-items))

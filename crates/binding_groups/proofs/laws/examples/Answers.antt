@@ -1,8 +1,0 @@
--- The groups are computed.
-use Rattle.std.specs.Prelude.{refl}
-use Rattle.binding_groups.specs.InOrder.{ordered_groups}
-use Rattle.binding_groups.proofs.laws.examples.Goals as goal
-
-pub returns : goal.returns
-unfolding ordered_groups
-returns c = record { used_first = refl; joined = refl; alone = refl; ties = refl }

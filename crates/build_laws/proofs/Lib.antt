@@ -1,8 +1,0 @@
--- names of modules
-mod Named
--- what interfaces show
-mod Shows
--- a module more
-pub mod Next
--- all modules
-pub mod Chain

@@ -1,4 +1,0 @@
-//! What builds of good modules link.
-#![tactic(auto)]
-
-pub mod laws;

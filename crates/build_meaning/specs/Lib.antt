@@ -1,2 +1,0 @@
--- what the output of a build means
-pub mod Meaning

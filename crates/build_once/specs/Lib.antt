@@ -1,2 +1,0 @@
--- a build has one outcome
-pub mod Once

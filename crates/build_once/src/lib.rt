@@ -1,4 +1,0 @@
-//! A build has one outcome.
-#![tactic(auto)]
-
-pub mod laws;

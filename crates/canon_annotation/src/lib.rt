@@ -1,5 +1,0 @@
-//! What written types mean.
-#![tactic(auto)]
-
-pub mod annotation;
-mod named;

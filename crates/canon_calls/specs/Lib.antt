@@ -1,6 +1,0 @@
-pub mod Operators
-pub mod Callees
-pub mod Calls
-pub mod Chains
-pub mod Examples
-pub mod Parts

@@ -1,2 +1,0 @@
--- constructors and unions, one after the other
-pub mod Making

@@ -1,2 +1,0 @@
-//! Canonical trees whose constructors meet conditions.
-#![tactic(auto)]

@@ -1,0 +1,13 @@
+use Rattle.std.proofs.Common.{◌≡◌, List, map, take}
+use Rattle.elm_lexer.specs.Tokens.{Token}
+use Rattle.elm_tree.specs.View.{declaration_view}
+use Rattle.canon_module.specs.Names.{join, names_in}
+use Rattle.canon_module.specs.View.{names_view}
+use Rattle.canon_module.proofs.names.Names.fill.Given as goal
+
+abbrev pub invariant-loop-declaration : goal.invariant-loop-declaration
+invariant-loop-declaration l =
+    (tokens : List Token) →
+    names_view tokens l.self
+    ≡ join (names_view tokens l.initial.self)
+    (names_in (map (declaration_view tokens) (take l.declaration-index l.declarations)))

@@ -1,2 +1,0 @@
--- names of one declaration more
-pub mod Joining

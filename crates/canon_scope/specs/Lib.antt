@@ -1,3 +1,0 @@
-pub mod Scope
-pub mod Logs
-pub mod Longs

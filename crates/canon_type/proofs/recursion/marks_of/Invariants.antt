@@ -1,0 +1,10 @@
+use Rattle.std.proofs.Common.{◌≡◌, ◌<◌, ℕ, false, length, take}
+use Rattle.std.specs.List.{slice_index_or}
+use Rattle.decl_groups.specs.View.{is_marked}
+use Rattle.canon_type.proofs.recursion.marks_of.Given as goal
+
+abbrev pub invariant-loop-group : goal.invariant-loop-group
+invariant-loop-group l = record {
+  count : length l.marks.items ≡ l.count;
+  marks : (i : ℕ) → i < l.count → slice_index_or l.marks.items i false ≡ is_marked (take l.group-index l.groups) i;
+}

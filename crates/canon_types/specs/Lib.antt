@@ -1,4 +1,0 @@
-pub mod Written
-pub mod Parameters
-pub mod Recursion
-pub mod Kept

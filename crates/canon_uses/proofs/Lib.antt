@@ -1,3 +1,0 @@
--- one expression, branch, group or function more
-pub mod Adding
-pub mod Linking

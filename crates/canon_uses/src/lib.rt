@@ -1,4 +1,0 @@
-//! The names of modules that expressions use.
-#![tactic(auto)]
-
-pub mod uses;

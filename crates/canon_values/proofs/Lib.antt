@@ -1,4 +1,0 @@
--- what declarations mean, one after the other
-pub mod Meaning
--- groups of declarations
-pub mod Grouping

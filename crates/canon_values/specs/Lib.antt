@@ -1,4 +1,0 @@
-pub mod Items
-pub mod Faults
-pub mod Kept
-pub mod Ports

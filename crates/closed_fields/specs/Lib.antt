@@ -1,2 +1,0 @@
--- declared types whose variables are parameters
-pub mod Closed

@@ -1,4 +1,0 @@
-//! The variables of declared types.
-#![tactic(auto)]
-
-pub mod laws;

@@ -1,2 +1,0 @@
--- all modules
-pub mod Chain

@@ -1,2 +1,0 @@
--- builds of good modules
-pub mod Builds

@@ -1,4 +1,0 @@
-//! The modules of a build, as they were compiled.
-#![tactic(auto)]
-
-pub mod laws;

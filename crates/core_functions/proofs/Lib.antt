@@ -1,2 +1,0 @@
--- functions that stand alone in their groups
-mod Alone

@@ -1,2 +1,0 @@
--- functions of core modules that no text can say
-pub mod Cores

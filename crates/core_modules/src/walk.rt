@@ -1,0 +1,277 @@
+//! The signs of expressions.
+
+ghost use Rattle.std.specs.Prelude.{◌≡◌, ◌++◌, ◌∷◌, [], map, flat_map, OnOk};
+ghost use Rattle.elm_canon.specs.Tree.{exprs_of, branches_of, groups_of, functions_of};
+ghost use Rattle.elm_canon.specs.View.{expr_view, link_view, branch_view, group_view, function_view, op_view};
+ghost use Rattle.elm_canon.specs.View.{patterns_view};
+ghost use Rattle.core_modules.specs.PortFaultsSigns as spec;
+ghost use Rattle.core_modules.specs.Links.{before, before_all, after};
+
+use crate::makers::{built_sign, push, push_name};
+use crate::patterns::{push_pattern, push_patterns};
+use crate::port_faults_sign::{Form, Sign};
+use elm_base::names::Name;
+use elm_canon::tree::{Branch, Expr, Function, Group, Link, Op, Pattern};
+use std::alloc::AllocError;
+
+/// Adds the sign of what is done with values.
+fn push_op(op: &Op, signs: &mut Vec<Sign>) -> Result<(), AllocError>
+    ensures { OnOk result (signs.new.items ≡ signs.old.items ++ spec.op_sign (op_view op.now) ∷ []) }
+{
+    match op {
+        Op::Build(_, union, constructor) => push(built_sign(union, constructor), signs),
+        _ => push(Sign::Form(Form::Other), signs),
+    }
+}
+
+/// Adds the end of what is built.
+fn push_op_ends(op: &Op, signs: &mut Vec<Sign>) -> Result<(), AllocError>
+    ensures { OnOk result (signs.new.items ≡ signs.old.items ++ spec.op_ends (op_view op.now)) }
+{
+    match op {
+        Op::Build(_, _, _) => push(Sign::Form(Form::End), signs),
+        _ => Ok(()),
+    }
+}
+
+/// Adds the sign of a function without a name.
+#[tactic(auto, using(crate::proofs::Counting::one_parameter, crate::proofs::Counting::other_parameters))]
+fn push_lambda(parameters: &[Pattern], signs: &mut Vec<Sign>) -> Result<(), AllocError>
+    ensures { OnOk result (signs.new.items
+        ≡ signs.old.items ++ spec.lambda_sign (patterns_view parameters.now) ∷ []) }
+{
+    if parameters.len() == 1 {
+        push(Sign::Form(Form::Lambda), signs)
+    } else {
+        push(Sign::Form(Form::Other), signs)
+    }
+}
+
+/// Adds the sign of a choice.
+#[tactic(auto, using(crate::proofs::Counting::two_branches, crate::proofs::Counting::other_branches))]
+fn push_case(branches: &[Branch], signs: &mut Vec<Sign>) -> Result<(), AllocError>
+    ensures { OnOk result (signs.new.items
+        ≡ signs.old.items ++ spec.case_sign (branches_of (map branch_view branches.now)) ∷ []) }
+{
+    if branches.len() == 2 {
+        push(Sign::Form(Form::Two), signs)
+    } else {
+        push(Sign::Form(Form::Other), signs)
+    }
+}
+
+/// Adds the sign of functions.
+#[tactic(auto, using(crate::proofs::Counting::one_function, crate::proofs::Counting::other_functions))]
+fn push_together(functions: &[Function], signs: &mut Vec<Sign>) -> Result<(), AllocError>
+    ensures { OnOk result (signs.new.items
+        ≡ signs.old.items ++ spec.together_sign (functions_of (map function_view functions.now)) ∷ []) }
+{
+    if functions.len() == 1 {
+        push(Sign::Form(Form::Alone), signs)
+    } else {
+        push(Sign::Form(Form::Other), signs)
+    }
+}
+
+/// Adds a sign for each field.
+fn push_fields(fields: &[Name], signs: &mut Vec<Sign>) -> Result<(), AllocError>
+    ensures { OnOk result (signs.new.items
+        ≡ signs.old.items ++ flat_map (λ x. spec.other ∷ []) fields.now) }
+{
+    for _ in fields {
+        push(Sign::Form(Form::Other), signs)?;
+    }
+    Ok(())
+}
+
+/// Adds the signs of an expression.
+#[cycle(signs)]
+fn push_signs(expr: &Expr, signs: &mut Vec<Sign>) -> Result<(), AllocError>
+    ensures { OnOk result (signs.new.items ≡ signs.old.items ++ spec.signs (expr_view expr.now)) }
+{
+    match expr {
+        Expr::Literal(_) => push(Sign::Form(Form::Other), signs),
+        Expr::Name(name) => push_name(name, signs),
+        Expr::Accessor(_) => push(Sign::Form(Form::Other), signs),
+        Expr::Lambda(parameters, body) => {
+            push_lambda(parameters, signs)?;
+            push_patterns(parameters, signs)?;
+            push_signs(body, signs)
+        }
+        Expr::Apply(function, arguments) => {
+            push(Sign::Form(Form::Apply), signs)?;
+            push_signs(function, signs)?;
+            push_all(arguments, signs)?;
+            push(Sign::Form(Form::End), signs)
+        }
+        Expr::Strict(op, parts) => {
+            push_op(op, signs)?;
+            push_all(parts, signs)?;
+            push_op_ends(op, signs)
+        }
+        Expr::Access(inner, fields) => {
+            push_fields(fields, signs)?;
+            push_signs(inner, signs)
+        }
+        Expr::If(condition, yes, no) => {
+            push(Sign::Form(Form::Other), signs)?;
+            push_signs(condition, signs)?;
+            push_signs(yes, signs)?;
+            push_signs(no, signs)
+        }
+        Expr::Chain(first, links) => {
+            push_before(links, signs)?;
+            push_signs(first, signs)?;
+            push_after(links, signs)
+        }
+        Expr::Let(groups, body) => {
+            push(Sign::Form(Form::Other), signs)?;
+            push_groups(groups, signs)?;
+            push_signs(body, signs)
+        }
+        Expr::Case(subject, branches) => {
+            push_case(branches, signs)?;
+            push_signs(subject, signs)?;
+            push_branches(branches, signs)
+        }
+        Expr::Located(_, inner) => push_signs(inner, signs),
+    }
+}
+
+/// Adds the signs of expressions.
+#[cycle(signs)]
+fn push_all(exprs: &[Expr], signs: &mut Vec<Sign>) -> Result<(), AllocError>
+    ensures { OnOk result (signs.new.items
+        ≡ signs.old.items ++ spec.exprs_signs (exprs_of (map expr_view exprs.now))) }
+{
+    for expr in exprs {
+        push_signs(expr, signs)?;
+    }
+    Ok(())
+}
+
+/// Adds the signs that stand before an expression with which these things are done: those of the last come first.
+#[cycle(signs)]
+fn push_before(links: &[Link], signs: &mut Vec<Sign>) -> Result<(), AllocError>
+    ensures { OnOk result (signs.new.items ≡ signs.old.items ++ before_all (map link_view links.now)) }
+{
+    for link in links.iter().rev() {
+        push_one_before(link, signs)?;
+    }
+    Ok(())
+}
+
+/// Those of one thing.
+#[cycle(signs)]
+fn push_one_before(link: &Link, signs: &mut Vec<Sign>) -> Result<(), AllocError>
+    ensures { OnOk result (signs.new.items ≡ signs.old.items ++ before (link_view link.now)) }
+{
+    match link {
+        Link::Given(function, arguments) => {
+            push(Sign::Form(Form::Apply), signs)?;
+            push_signs(function, signs)?;
+            push_all(arguments, signs)
+        }
+        Link::Composed(function, _) => {
+            push(Sign::Form(Form::Apply), signs)?;
+            push_signs(function, signs)
+        }
+        Link::After(op, parts) => {
+            push_op(op, signs)?;
+            push_all(parts, signs)
+        }
+        Link::Before(op, _) => push_op(op, signs),
+        Link::Decided(_, _, left) => {
+            push(Sign::Form(Form::Other), signs)?;
+            push_signs(left, signs)
+        }
+    }
+}
+
+/// Adds the signs that stand after an expression with which these things are done.
+#[cycle(signs)]
+fn push_after(links: &[Link], signs: &mut Vec<Sign>) -> Result<(), AllocError>
+    ensures { OnOk result (signs.new.items ≡ signs.old.items ++ flat_map after (map link_view links.now)) }
+{
+    for link in links {
+        push_one_after(link, signs)?;
+    }
+    Ok(())
+}
+
+/// Those of one thing.
+#[cycle(signs)]
+fn push_one_after(link: &Link, signs: &mut Vec<Sign>) -> Result<(), AllocError>
+    ensures { OnOk result (signs.new.items ≡ signs.old.items ++ after (link_view link.now)) }
+{
+    match link {
+        Link::Given(_, _) => push(Sign::Form(Form::End), signs),
+        Link::Composed(_, right) => {
+            push_signs(right, signs)?;
+            push(Sign::Form(Form::End), signs)
+        }
+        Link::After(op, _) => push_op_ends(op, signs),
+        Link::Before(op, right) => {
+            push_signs(right, signs)?;
+            push_op_ends(op, signs)
+        }
+        Link::Decided(_, _, _) => Ok(()),
+    }
+}
+
+/// Adds the signs of branches.
+#[cycle(signs)]
+fn push_branches(branches: &[Branch], signs: &mut Vec<Sign>) -> Result<(), AllocError>
+    ensures { OnOk result (signs.new.items
+        ≡ signs.old.items ++ spec.branches_signs (branches_of (map branch_view branches.now))) }
+{
+    for branch in branches {
+        push_pattern(&branch.pattern, signs)?;
+        push_signs(&branch.body, signs)?;
+    }
+    Ok(())
+}
+
+/// Adds the signs of groups of definitions.
+#[cycle(signs)]
+fn push_groups(groups: &[Group], signs: &mut Vec<Sign>) -> Result<(), AllocError>
+    ensures { OnOk result (signs.new.items
+        ≡ signs.old.items ++ spec.groups_signs (groups_of (map group_view groups.now))) }
+{
+    for group in groups {
+        push_group(group, signs)?;
+    }
+    Ok(())
+}
+
+/// Adds the signs of a group of definitions.
+#[cycle(signs)]
+pub(crate) fn push_group(group: &Group, signs: &mut Vec<Sign>) -> Result<(), AllocError>
+    ensures { OnOk result (signs.new.items ≡ signs.old.items ++ spec.group_signs (group_view group.now)) }
+{
+    match group {
+        Group::Together(functions) => {
+            push_together(functions, signs)?;
+            push_functions(functions, signs)
+        }
+        Group::Constant(_, body) => push_signs(body, signs),
+        Group::Destructure(pattern, body) => {
+            push_pattern(pattern, signs)?;
+            push_signs(body, signs)
+        }
+    }
+}
+
+/// Adds the signs of functions.
+#[cycle(signs)]
+fn push_functions(functions: &[Function], signs: &mut Vec<Sign>) -> Result<(), AllocError>
+    ensures { OnOk result (signs.new.items
+        ≡ signs.old.items ++ spec.functions_signs (functions_of (map function_view functions.now))) }
+{
+    for function in functions {
+        push_patterns(&function.parameters, signs)?;
+        push(Sign::Form(Form::End), signs)?;
+        push_signs(&function.body, signs)?;
+    }
+    Ok(())
+}

@@ -1,2 +1,0 @@
--- constructors and ports
-pub mod Once

@@ -1,2 +1,0 @@
--- the types of constructors and ports
-pub mod Schemes

@@ -1,4 +1,0 @@
-//! The types that a module declares, in the world that they make, with their faults.
-#![tactic(auto)]
-
-pub mod declaring;

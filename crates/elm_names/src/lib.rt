@@ -1,4 +1,0 @@
-//! Names that are shared: one text, many uses.
-#![tactic(auto)]
-
-pub mod name;

@@ -1,4 +1,0 @@
-pub mod Spelled
-pub mod Constructors
-pub mod Proper
-pub mod Declarations

@@ -1,4 +1,0 @@
-//! What the resolution of names guarantees of a canonical tree.
-#![tactic(auto)]
-
-pub mod laws;

@@ -1,5 +1,0 @@
-pub mod Naming
-pub mod Text
-pub mod Frames
-pub mod Used
-pub mod Examples

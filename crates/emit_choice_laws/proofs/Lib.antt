@@ -1,5 +1,0 @@
-pub mod Rows
-pub mod Choose
-pub mod Tests
-pub mod Trees
-pub mod Cases

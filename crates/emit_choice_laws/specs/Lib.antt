@@ -1,4 +1,0 @@
-pub mod Given
-pub mod Sizes
-pub mod For
-pub mod Choosing

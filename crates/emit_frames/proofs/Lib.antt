@@ -1,2 +1,0 @@
--- one part more
-mod Steps

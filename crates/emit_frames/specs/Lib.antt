@@ -1,2 +1,0 @@
--- fields, tests and constants
-pub mod Frames

@@ -1,8 +1,0 @@
-//! The frames of what is emitted: paths of fields, tests, turns and loops.
-#![tactic(auto)]
-
-pub mod branches;
-pub mod functions;
-pub mod loops;
-pub mod made;
-pub mod turns;

@@ -1,4 +1,0 @@
-pub mod Waiting
-pub mod Performed
-pub mod MadeArrows
-pub mod MadeParts

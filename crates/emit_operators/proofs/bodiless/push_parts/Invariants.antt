@@ -1,8 +1,0 @@
-use Rattle.std.proofs.Common.{◌≡◌}
-use Rattle.js_tree.specs.Postorder.{trees_of}
-use Rattle.emit_operators.specs.Parts.{waiting}
-use Rattle.emit_operators.specs.Open.{made_items}
-use Rattle.emit_operators.proofs.bodiless.push_parts.Given as goal
-
-abbrev pub invariant-loop-i : goal.invariant-loop-i
-invariant-loop-i l = trees_of l.trees ≡ waiting l.shape l.names (made_items l.i) (trees_of l.fn.trees)

@@ -1,4 +1,0 @@
-pub mod Parts
-pub mod Ends
-pub mod Open
-pub mod Primitives

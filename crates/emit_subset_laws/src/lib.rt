@@ -1,4 +1,0 @@
-//! What is emitted is in the subset.
-#![tactic(auto)]
-
-pub mod laws;

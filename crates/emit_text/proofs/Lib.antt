@@ -1,6 +1,0 @@
--- lines one after the other
-pub mod Joined
--- ports in order
-pub mod Ordered
--- the line of `_main`, piece by piece
-pub mod Pieces

@@ -1,7 +1,0 @@
-use Rattle.std.proofs.Common.{◌≡◌, ◌++◌, map, take}
-use Rattle.emit_text.specs.Texts.{joined}
-use Rattle.emit_text.proofs.output.join.Given as goal
-
-abbrev pub invariant-loop-line : goal.invariant-loop-line
-invariant-loop-line l =
-    l.text.items ≡ l.initial.text.items ++ joined (map (λ line. line.now) (take l.line-index l.lines))

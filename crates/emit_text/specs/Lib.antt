@@ -1,2 +1,0 @@
--- the texts of parts of an output
-pub mod Texts

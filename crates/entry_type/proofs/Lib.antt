@@ -1,8 +1,0 @@
--- types at the front of nodes
-pub mod Front
--- parts and fields, one after the other
-pub mod Parts
--- how many types are still to come
-pub mod Lasting
--- fields of records among flags
-mod Ascending

@@ -1,2 +1,0 @@
-//! Written trees whose record updates name fields.
-#![tactic(auto)]

@@ -1,2 +1,0 @@
--- names of modules among names
-pub mod Naming

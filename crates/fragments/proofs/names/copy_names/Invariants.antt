@@ -1,5 +1,0 @@
-use Rattle.std.proofs.Common.{◌≡◌, take}
-use Rattle.fragments.proofs.names.copy_names.Given as goal
-
-abbrev pub invariant-loop-home : goal.invariant-loop-home
-invariant-loop-home l = l.copies.items ≡ take l.home-index l.names

@@ -1,8 +1,0 @@
-//! What holds of ground types.
-
-ghost use Rattle.ground_types.specs.Ground.{EachKindFits};
-
-/// Each kind of variable stands for some type.
-pub fn kind_law()
-    ensures { EachKindFits }
-{}

@@ -1,4 +1,0 @@
--- the computed order is one
-pub mod Ordering
--- definitions that lead to themselves
-pub mod Itself

@@ -1,6 +1,0 @@
-use Rattle.infer_base.specs.View.{code_of}
-use Rattle.infer_base.proofs.Scoping.{one_left}
-use Rattle.infer_base.proofs.scope.Scope.restore.Goals as goal
-
-pub returns : goal.returns
-returns c = one_left c.args.entered (code_of c.args.self.now) (code_of c.set.new.self) c.in_ok-set.ensures.scope

@@ -1,4 +1,0 @@
-pub mod Titles
-pub mod Reading
-pub mod Laws
-pub mod Beginning

@@ -1,4 +1,0 @@
-//! The types of names with annotations, where they are used.
-#![tactic(auto)]
-
-pub mod declaring;

@@ -1,0 +1,9 @@
+use Rattle.std.proofs.Common.{◌≡◌, map}
+use Rattle.elm_type.specs.View.{kind_view}
+use Rattle.infer_exprs.proofs.entering.apart.Given as goal
+
+abbrev pub invariant-loop-variable : goal.invariant-loop-variable
+invariant-loop-variable l = record {
+  names : l.names.items ≡ map (λ o. o.name) l.yielded;
+  kinds : map kind_view l.kinds.items ≡ map (λ o. kind_view o.kind) l.yielded;
+}

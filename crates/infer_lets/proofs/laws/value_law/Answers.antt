@@ -1,6 +1,0 @@
-use Rattle.infer_lets.proofs.Around.{value_law}
-use Rattle.infer_lets.proofs.laws.value_law.Goals as goal
-
-pub returns : goal.returns
-returns c code inner p e i v names old now new bad begun stuck =
-    value_law code inner p e i v names old now new bad begun stuck

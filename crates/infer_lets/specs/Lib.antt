@@ -1,4 +1,0 @@
-pub mod Members
-pub mod Begun
-pub mod Finished
-pub mod First

@@ -1,2 +1,0 @@
--- the types of annotations have no constants
-pub mod Written

@@ -1,2 +1,0 @@
-//! Modules whose types can be inferred, and types that other modules can be told.
-#![tactic(auto)]

@@ -1,2 +1,0 @@
--- types that are made in several steps
-pub mod Making

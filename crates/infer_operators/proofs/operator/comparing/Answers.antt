@@ -1,5 +1,0 @@
-use Rattle.infer_operators.proofs.Making.{compared}
-use Rattle.infer_operators.proofs.operator.comparing.Goals as goal
-
-pub returns : goal.returns
-returns c = compared _ _ _ c.in_ok-made.made c.args.variable c.in_ok-answer.answer c.in_ok-answer.ensures c.in_ok-made.ensures

@@ -1,5 +1,0 @@
-use Rattle.infer_operators.proofs.Making.{computed}
-use Rattle.infer_operators.proofs.operator.computing.Goals as goal
-
-pub returns : goal.returns
-returns c = computed _ _ c.in_ok-made.made c.args.variable c.in_ok-made.ensures

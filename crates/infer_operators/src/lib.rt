@@ -1,4 +1,0 @@
-//! The operators of two values, as steps of inference.
-#![tactic(auto)]
-
-pub mod operator;

@@ -1,2 +1,0 @@
--- constructors with all their fields
-mod Building

@@ -1,2 +1,0 @@
--- the groups of a module
-mod Grouping

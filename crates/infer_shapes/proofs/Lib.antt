@@ -1,2 +1,0 @@
--- variables of constructors
-pub mod Shaping

@@ -1,4 +1,0 @@
-//! Constructors: variables for what one makes and for its fields.
-#![tactic(auto)]
-
-pub mod shape;

@@ -1,4 +1,0 @@
-pub mod Commands
-pub mod Wires
-pub mod Frames
-pub mod Stages

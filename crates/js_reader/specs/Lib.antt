@@ -1,5 +1,0 @@
-pub mod NameView
-pub mod View
-pub mod Empty
-pub mod Words
-pub mod Read

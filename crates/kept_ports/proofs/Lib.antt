@@ -1,4 +1,0 @@
--- what is mentioned
-pub mod Joined
--- ports
-pub mod Ports

@@ -1,2 +1,0 @@
--- commands and subscriptions of ports
-pub mod Ports

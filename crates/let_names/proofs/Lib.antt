@@ -1,2 +1,0 @@
--- names among names
-pub mod Among

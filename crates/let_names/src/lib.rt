@@ -1,2 +1,0 @@
-//! The names of each `let`, and those that its definitions bind inside.
-#![tactic(auto)]

@@ -1,0 +1,5 @@
+use Rattle.std.proofs.Common.{◌≡◌, take}
+use Rattle.link.proofs.names.copy_names.Given as goal
+
+abbrev pub invariant-loop-home : goal.invariant-loop-home
+invariant-loop-home l = l.copies.items ≡ take l.home-index l.names

@@ -1,2 +1,0 @@
--- modules with proper names
-pub mod Modules

@@ -1,2 +1,0 @@
--- what a module means and compiles to is determined
-pub mod Once

@@ -1,4 +1,0 @@
-//! A module compiles to one value.
-#![tactic(auto)]
-
-pub mod laws;

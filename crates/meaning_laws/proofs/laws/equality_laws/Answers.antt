@@ -1,5 +1,0 @@
-use Rattle.meaning_laws.proofs.laws.equality_laws.Goals as goal
-use Rattle.meaning_laws.proofs.Equality.{equals_itself, equal_turns, equals_alike}
-
-pub returns : goal.returns
-returns c = record { equals_itself = equals_itself; turns = equal_turns; alike = equals_alike }

@@ -1,4 +1,0 @@
-pub mod Fuel
-pub mod Binding
-pub mod Comparing
-pub mod Records

@@ -1,2 +1,0 @@
--- values of modules, one after another
-pub mod Values

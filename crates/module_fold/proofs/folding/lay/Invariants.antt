@@ -1,8 +1,0 @@
-use Rattle.std.proofs.Common.{ℕ, [], take}
-use Rattle.module_fold.specs.Fold.{values_at}
-use Rattle.module_fold.proofs.folding.lay.Given as goal
-
-abbrev pub invariant-loop-import : goal.invariant-loop-import
-invariant-loop-import g l =
-    (i : ℕ) → g.W.Work.holds l.work l.initial.desk i []
-    → g.W.Work.holds l.work l.desk i (values_at l.values (take l.import-index l.imports))

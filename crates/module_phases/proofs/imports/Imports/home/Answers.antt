@@ -1,5 +1,0 @@
-use Rattle.module_phases.proofs.Resolving.{view_home}
-use Rattle.module_phases.proofs.imports.Imports.home.Goals as goal
-
-pub returns : goal.returns
-returns c = view_home c.args.self.now

@@ -1,8 +1,0 @@
--- what is kept of the imports of a module, as plain data
-pub mod Parts
--- what a module is compiled in
-pub mod View
--- what the names of a module are resolved against
-pub mod Settings
--- what the phases up to names say of a text
-pub mod Phases

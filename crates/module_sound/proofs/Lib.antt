@@ -1,2 +1,0 @@
--- what a module is compiled in
-pub mod Around

@@ -1,6 +1,0 @@
--- The names that imports of the program have.
-use Rattle.module_walk.specs.Modules.{Word}
-use Rattle.module_walk.specs.declared.reader.Written.{Written}
-
-abbrev pub word_view : Written → Word
-word_view w = record { place = w.place; text = w.name }

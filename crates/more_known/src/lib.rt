@@ -1,4 +1,0 @@
-//! A module that is typable is typed the same where more is known.
-#![tactic(auto)]
-
-pub mod laws;

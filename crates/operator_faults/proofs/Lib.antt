@@ -1,2 +1,0 @@
--- names of functions
-mod Names

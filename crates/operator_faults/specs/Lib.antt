@@ -1,2 +1,0 @@
--- what the text of a core module must have
-pub mod Faults

@@ -1,2 +1,0 @@
--- what a module has in which nothing is lacking
-pub mod Laws

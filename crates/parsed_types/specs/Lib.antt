@@ -1,2 +1,0 @@
--- written types
-pub mod Written

@@ -1,4 +1,0 @@
-//! The function types of a read text.
-#![tactic(auto)]
-
-pub mod laws;

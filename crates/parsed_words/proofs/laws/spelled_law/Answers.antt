@@ -1,6 +1,0 @@
--- Along the derivation: `module_spelled`.
-use Rattle.parsed_words.proofs.Walking.{module_spelled, text_spelled}
-use Rattle.parsed_words.proofs.laws.spelled_law.Goals as goal
-
-pub returns : goal.returns
-returns c = record { tokens = module_spelled; text = text_spelled }

@@ -1,4 +1,0 @@
-pub mod Sites
-pub mod Faults
-pub mod Laws
-pub mod Links

@@ -1,2 +1,0 @@
--- covered sites make resolved expressions simple
-pub mod Covering

@@ -1,4 +1,0 @@
-//! What the check of patterns gives to typed programs.
-#![tactic(auto)]
-
-pub mod laws;

@@ -1,2 +1,0 @@
--- modules and programs
-pub mod Placed

@@ -1,2 +1,0 @@
--- programs that are placed in a build
-pub mod Placed

@@ -1,2 +1,0 @@
-//! `map` of commands and of subscriptions in canonical trees.
-#![tactic(auto)]

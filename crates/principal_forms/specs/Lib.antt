@@ -1,2 +1,0 @@
--- principal types in one form
-pub mod Forms

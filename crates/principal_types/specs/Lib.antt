@@ -1,2 +1,0 @@
-pub mod Uniqueness
-pub mod Modules

@@ -1,2 +1,0 @@
--- walks, step by step
-pub mod Walking

@@ -1,2 +1,0 @@
--- a walk along uses
-pub mod Walk

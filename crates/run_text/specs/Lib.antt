@@ -1,4 +1,0 @@
-pub mod Given
-pub mod Told
-pub mod View
-pub mod Lines

@@ -1,4 +1,0 @@
--- names in ascending order
-pub mod Ascending
--- what insertion gives
-pub mod Inserted

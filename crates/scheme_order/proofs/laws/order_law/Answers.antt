@@ -1,9 +1,0 @@
--- The laws of names in order.
-use Rattle.scheme_order.proofs.Inserted.{one_form, same_names}
-use Rattle.scheme_order.proofs.laws.order_law.Goals as goal
-
-pub returns-clause-one : goal.returns-clause-one
-returns-clause-one c = one_form
-
-pub returns-clause-same : goal.returns-clause-same
-returns-clause-same c = same_names

@@ -1,2 +1,0 @@
--- the fields that variables lack, in order
-pub mod Order

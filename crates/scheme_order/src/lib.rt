@@ -1,5 +1,0 @@
-//! Schemes in one form.
-#![tactic(auto)]
-
-pub mod laws;
-pub mod order;

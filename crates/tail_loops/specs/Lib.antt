@@ -1,4 +1,0 @@
--- where a return position stands
-pub mod Turns
--- the values of an expression
-pub mod Tails

@@ -1,2 +1,0 @@
--- what a text guarantees of its declarations
-pub mod Read

@@ -1,4 +1,0 @@
-//! Modules of texts: resolved without faults, they are proper.
-#![tactic(auto)]
-
-pub mod laws;

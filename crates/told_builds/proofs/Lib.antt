@@ -1,4 +1,0 @@
--- modules among others
-pub mod Among
--- what they tell
-pub mod Told

@@ -1,4 +1,0 @@
-//! What the modules of a build tell each other.
-#![tactic(auto)]
-
-pub mod laws;

@@ -1,2 +1,0 @@
--- what modules offer
-pub mod Offers

@@ -1,2 +1,0 @@
--- the number of a name, one declaration after the other
-pub mod Numbering

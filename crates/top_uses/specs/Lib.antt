@@ -1,2 +1,0 @@
-pub mod TopUses
-pub mod Kept

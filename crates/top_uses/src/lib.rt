@@ -1,4 +1,0 @@
-//! Which declarations of a module its declarations use.
-#![tactic(auto)]
-
-pub mod numbers;

@@ -1,4 +1,0 @@
-//! Where definitions with annotations pass, and where they fail.
-#![tactic(auto)]
-
-pub mod laws;

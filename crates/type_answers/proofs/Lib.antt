@@ -1,4 +1,0 @@
-pub mod Pairing
-pub mod Explaining
-pub mod Lasting
-pub mod Ending

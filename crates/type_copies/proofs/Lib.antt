@@ -1,4 +1,0 @@
-pub mod Cells
-pub mod Thawing
-pub mod Generalising
-pub mod Saying

@@ -1,3 +1,0 @@
-pub mod Frozen
-pub mod Says
-pub mod Laws

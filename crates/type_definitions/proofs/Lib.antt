@@ -1,4 +1,0 @@
--- groups of definitions
-pub mod Grouping
--- definitions with annotations
-pub mod Closing

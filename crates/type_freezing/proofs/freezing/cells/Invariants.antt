@@ -1,9 +1,0 @@
-use Rattle.std.proofs.Common.{◌≡◌, take, map}
-use Rattle.type_order.specs.Order.{number_in}
-use Rattle.type_freezing.specs.Cells.{older_in, cell_in}
-use Rattle.type_freezing.specs.View.{cell_view}
-use Rattle.type_freezing.proofs.freezing.cells.Given as goal
-
-abbrev pub invariant-loop-variable : goal.invariant-loop-variable
-invariant-loop-variable l =
-    map cell_view l.cells.items ≡ map (cell_in l.depth l.store (number_in (older_in l.order))) (take l.variable-index l.order.variables.items)

@@ -1,5 +1,0 @@
-pub mod Formed
-pub mod View
-pub mod Cells
-pub mod Freezing
-pub mod Laws

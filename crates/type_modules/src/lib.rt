@@ -1,4 +1,0 @@
-//! Inference of a module, one type group after another.
-#![tactic(auto)]
-
-pub mod laws;

@@ -1,4 +1,0 @@
-pub mod Ends
-pub mod Walking
-pub mod Working
-pub mod Entering

@@ -1,4 +1,0 @@
-pub mod Types
-pub mod Sums
-pub mod Fields
-pub mod Counting

@@ -1,9 +1,0 @@
-use Rattle.std.proofs.Common.{◌≡◌, take, map, min}
-use Rattle.elm_type.specs.Types.{size_fields}
-use Rattle.type_store.specs.View.{field_view}
-use Rattle.type_reading.specs.Bases.{most, older_of, type_in}
-use Rattle.type_reading.specs.Reading.{read_row}
-use Rattle.type_reading.proofs.sizes.fields_size.Given as goal
-
-abbrev pub invariant-loop-field : goal.invariant-loop-field
-invariant-loop-field l = l.sum ≡ min (size_fields (read_row (type_in l.store (older_of l.known)) (map field_view (take l.field-index l.fields)))) most

@@ -1,4 +1,0 @@
-pub mod Passing
-pub mod Failing
-pub mod Laws
-pub mod Annotated

@@ -1,0 +1,11 @@
+-- Fields in the order of their names, by insertion: `before`, `is_order`, `sort_arranges`.
+use Rattle.std.proofs.Common.{rules}
+use Rattle.std.proofs.lemmas.List.Sorted.{answers_always}
+use Rattle.type_schemes.proofs.Arranging.{before, is_order, sort_arranges}
+use Rattle.type_schemes.proofs.fields.sorted.Goals as goal
+
+pub returns : goal.returns
+returns c =
+    sort_arranges c.args.parts.items c.sort_by.new.self.items
+    (c.in_ok-sort_by.ensures.sorted before is_order (answers_always _ _ _ (λ f a r g h. search rules)))
+    (c.sort_by.ensures.stable before is_order (answers_always _ _ _ (λ f a r g h. search rules)))

@@ -1,7 +1,0 @@
-use Rattle.std.proofs.Common.{take}
-use Rattle.std.specs.List.{All}
-use Rattle.type_scopes.specs.Constants.{IsFree}
-use Rattle.type_scopes.proofs.constants.escaped.Given as goal
-
-abbrev pub invariant-loop-at : goal.invariant-loop-at
-invariant-loop-at l = All (IsFree l.depth l.store) (take l.at l.slots)

@@ -1,5 +1,0 @@
-use Rattle.type_scopes.proofs.laws.scope_law.Goals as goal
-use Rattle.type_scopes.proofs.Closing.{closes}
-
-pub returns : goal.returns
-returns c = closes c.choice_law.ensures

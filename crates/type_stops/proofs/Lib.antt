@@ -1,4 +1,0 @@
--- where expressions stop
-pub mod Stopping
--- where operations stop
-pub mod Operating

@@ -1,4 +1,0 @@
-//! Where expressions stop, from where their parts do.
-#![tactic(auto)]
-
-pub mod laws;

@@ -1,4 +1,0 @@
-pub mod Reading
-pub mod Growing
-pub mod Cells
-pub mod Thawing

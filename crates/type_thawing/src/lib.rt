@@ -1,4 +1,0 @@
-//! Copies of frozen types.
-#![tactic(auto)]
-
-pub mod copying;

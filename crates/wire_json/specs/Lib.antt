@@ -1,4 +1,0 @@
-pub mod FromJson
-pub mod Text
-pub mod Within
-pub mod Tasks
