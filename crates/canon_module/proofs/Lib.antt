@@ -12,3 +12,5 @@ pub mod Numbering
 pub mod Meaning
 -- groups of declarations
 pub mod Grouping
+-- what holds of a value that is made by steps
+pub mod Outcome

@@ -1,6 +1,6 @@
 //! The groups of the declarations of a module, by what they mean.
 
-ghost use Rattle.std.specs.Prelude.{◌≡◌, ◌++◌, ◌∷◌, [], ℕ, List, map, slice_index_or, IfOk, OnOk};
+ghost use Rattle.std.specs.Prelude.{◌≡◌, ◌++◌, ◌∷◌, [], ℕ, List, map, slice_index_or, IfOk, OnOk, IsOkAnd};
 ghost use Rattle.elm_canon.specs.Tree as canon;
 ghost use Rattle.elm_canon.specs.View.{declaration_view, function_view, known_view};
 ghost use Rattle.canon_expr.specs.Blocks.{group_of};
@@ -9,6 +9,7 @@ ghost use Rattle.canon_module.specs.Items as spec;
 ghost use Rattle.canon_module.specs.CanonValuesKept.{item_view, nothing};
 
 use crate::item::{Item, PortFunction};
+use crate::outcomes::put;
 use canon_expr::groups::{functions_in, one_group};
 use canon_expr::made::Made;
 use canon_expr::order::Order;
@@ -44,8 +45,7 @@ fn push_made(taken: &mut Vec<Made>, item: Item) -> Result<(), AllocError>
     ensures { OnOk result (map made_view taken.new.items
         ≡ map made_view taken.old.items ++ spec.made_by (item_view item) ∷ []) }
 {
-    taken.push(made_by(item))?;
-    Ok(())
+    put(taken, made_by(item))
 }
 
 /// Takes out the definitions at places, in turn.
@@ -57,8 +57,7 @@ fn take_each(alloc: Global, items: &mut Vec<Item>, members: &[u32]) -> Result<Ve
 {
     let mut taken = Vec::new(alloc);
     for member in members {
-        let item = take_one(items, *member as usize);
-        push_made(&mut taken, item)?;
+        push_made(&mut taken, take_one(items, *member as usize))?;
     }
     Ok(taken)
 }
@@ -68,8 +67,7 @@ fn push(declarations: &mut Vec<Declaration>, declaration: Declaration) -> Result
     ensures { OnOk result (map declaration_view declarations.new.items
         ≡ map declaration_view declarations.old.items ++ declaration_view declaration ∷ []) }
 {
-    declarations.push(declaration)?;
-    Ok(())
+    put(declarations, declaration)
 }
 
 /// Adds a port.
@@ -93,6 +91,20 @@ fn push_defined(declarations: &mut Vec<Declaration>, group: Option<Group>) -> Re
     }
 }
 
+/// Adds a group, if there is one, where it is made.
+fn push_made_group(
+    declarations: &mut Vec<Declaration>,
+    made: Result<Option<Group>, AllocError>,
+) -> Result<(), AllocError>
+    ensures { OnOk result (IsOkAnd made (λ group. map declaration_view declarations.new.items
+        ≡ map declaration_view declarations.old.items ++ map canon.Define (one_view group))) }
+{
+    match made {
+        Ok(group) => push_defined(declarations, group),
+        Err(e) => Err(e),
+    }
+}
+
 /// Adds the group of one definition, if it makes one.
 fn push_value(
     alloc: Global,
@@ -102,10 +114,7 @@ fn push_value(
     ensures { OnOk result (map declaration_view declarations.new.items
         ≡ map declaration_view declarations.old.items ++ map canon.Define (group_of (made_view made.value ∷ []))) }
 {
-    match one_group(alloc, Box::into_inner(made)) {
-        Ok(group) => push_defined(declarations, group),
-        Err(e) => Err(e),
-    }
+    push_made_group(declarations, one_group(alloc, Box::into_inner(made)))
 }
 
 /// Adds the group of one declaration, if it makes one.
@@ -157,8 +166,7 @@ fn push_group(
     }
     let taken = take_each(alloc, items, members)?;
     let functions = functions_in(alloc, taken)?;
-    push_functions(declarations, functions)?;
-    Ok(())
+    push_functions(declarations, functions)
 }
 
 /// The groups of the declarations of a module, each after those that it uses. `items` says what they mean, and `order` is

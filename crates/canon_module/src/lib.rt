@@ -1,18 +1,21 @@
 //! What a module means, and all faults of its names.
 #![tactic(auto)]
 
+mod before;
 mod exports;
 pub mod faults;
 pub mod groups;
 pub mod item;
 mod makers;
 pub mod module;
-pub mod names;
-pub mod numbers;
+mod names;
+mod numbers;
+mod outcomes;
 pub mod port;
 mod ports;
-pub mod reaching;
+mod reaching;
 mod shown;
 pub mod uses;
-pub mod values;
-pub mod walk;
+mod values;
+mod walk;
+mod written;

@@ -10,6 +10,8 @@ ghost use Rattle.canon_env.specs.Imports.{name_of};
 ghost use Rattle.canon_type.specs.Unions.{alternatives_of};
 ghost use Rattle.canon_module.specs.Resolve.{maker_of, record_maker, makers_in};
 
+use crate::outcomes::put;
+use crate::written::{Declarations, Written};
 use canon_env::import::word_name;
 use canon_type::constructors::alternatives_of;
 use elm_base::names::Name;
@@ -30,8 +32,7 @@ fn push_given(
     ensures { OnOk result (map declaration_view makers.new.items
         ≡ map declaration_view makers.old.items ++ canon.Given name (known_view known) ∷ []) }
 {
-    makers.push(tree::Declaration::Given(name, known))?;
-    Ok(())
+    put(makers, tree::Declaration::Given(name, known))
 }
 
 /// A name of the module `home`.
@@ -100,7 +101,7 @@ fn field_names(
 {
     let mut names = Vec::with_capacity(alloc, fields.len())?;
     for field in fields {
-        names.push(word_name(alloc, tokens, field.name)?)?;
+        put(&mut names, word_name(alloc, tokens, field.name)?)?;
     }
     Ok(names)
 }
@@ -155,13 +156,13 @@ fn push_makers(
     alloc: Global,
     tokens: &[Token<'_>],
     home: &Name,
-    declaration: &Declaration,
+    declaration: &Written<'_>,
     makers: &mut Vec<tree::Declaration>,
 ) -> Result<(), AllocError>
     ensures { OnOk result (map declaration_view makers.new.items ≡ map declaration_view makers.old.items
         ++ makers_in home.now (tree_view.declaration_view (tokens_view tokens.now) declaration.now)) }
 {
-    match declaration {
+    match declaration.get() {
         Declaration::Value(_) => Ok(()),
         Declaration::Port(_, _) => Ok(()),
         Declaration::Union(word, _, constructors) => {
@@ -178,14 +179,15 @@ pub(crate) fn makers(
     alloc: Global,
     tokens: &[Token<'_>],
     home: &Name,
-    declarations: &[Declaration],
+    declarations: &Declarations<'_>,
 ) -> Result<Vec<tree::Declaration>, AllocError>
     ensures { IfOk result (λ v. map declaration_view v.items ≡ flat_map (makers_in home.now)
         (map (tree_view.declaration_view (tokens_view tokens.now)) declarations.now)) }
 {
     let mut makers = Vec::new(alloc);
-    for declaration in declarations {
-        push_makers(alloc, tokens, home, declaration, &mut makers)?;
+    for number in 0..declarations.len() {
+        let declaration = declarations.at(number);
+        push_makers(alloc, tokens, home, &declaration, &mut makers)?;
     }
     Ok(makers)
 }

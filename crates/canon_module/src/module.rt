@@ -6,7 +6,7 @@ ghost use Rattle.elm_tree.specs.Turns.{tokens_view};
 ghost use Rattle.elm_canon.specs.Tree as canon;
 ghost use Rattle.elm_canon.specs.View.{declaration_view, port_declaration_view, module_view};
 ghost use Rattle.canon_env.specs.Imports.{name_of};
-ghost use Rattle.canon_env.specs.Env.{imported_rows, known_view};
+ghost use Rattle.canon_env.specs.Env.{Rows, IsEnvOf, imported_rows, known_view};
 ghost use Rattle.canon_env.specs.Exposing.{import_faults, written_view};
 ghost use Rattle.canon_env.specs.Shown.{shown_view, unions_view};
 ghost use Rattle.canon_env.specs.Naming as naming;
@@ -25,9 +25,11 @@ ghost use Rattle.canon_module.specs.Kept.{setting_view};
 use crate::faults::push_name_faults;
 use crate::makers::makers;
 use crate::names::Names;
+use crate::outcomes::{boxed, in_box, put};
 use crate::ports::ports;
 use crate::shown::shown_of;
 use crate::values::values;
+use crate::written::Declarations;
 use canon_env::env::{Env, Known, World};
 use canon_env::exposing::{Written, import_faults};
 use canon_env::finding::Finding;
@@ -41,7 +43,7 @@ use elm_canon::tree as canon;
 use elm_canon::tree::{Module, PortDeclaration, UnionDeclaration};
 use elm_lexer::token::Token;
 use elm_tree::tree;
-use elm_tree::tree::{Declaration, Header};
+use elm_tree::tree::Header;
 use std::alloc::{AllocError, Global};
 use std::sync::Arc;
 
@@ -77,7 +79,7 @@ fn union_names(
 {
     let mut names = Vec::with_capacity(alloc, unions.len())?;
     for union in unions {
-        names.push(union.name.clone()?)?;
+        put(&mut names, union.name.clone()?)?;
     }
     Ok(names)
 }
@@ -102,13 +104,49 @@ fn heading_faults(
     Ok(findings)
 }
 
+/// What a module declares, and what it can name: its own values are `values`, and the names of others `imported`. The
+/// faults of its types are added to `findings`.
+fn types_of(
+    alloc: Global,
+    tokens: &[Token<'_>],
+    home: &Name,
+    imported: Env,
+    values: Vec<Name>,
+    declarations: &Declarations<'_>,
+    findings: &mut Vec<Finding>,
+) -> Result<Box<Declared>, AllocError>
+    ensures values { IfOk result (λ d. (shown_view d.value.shown).values ≡ values.items) }
+    ensures types { IfOk result (λ d. (rows : Rows) → IsEnvOf imported rows → AreDeclared home.now rows
+        (map (tree_view.declaration_view (tokens_view tokens.now)) declarations.now) (shown_view d.value.shown)) }
+    ensures all { IfOk result (λ d. (rows : Rows) → IsEnvOf imported rows → AreAll home.now rows
+        (map (tree_view.declaration_view (tokens_view tokens.now)) declarations.now) (shown_view d.value.shown)) }
+    ensures world { IfOk result (λ d. (rows : Rows) → IsEnvOf imported rows
+        → IsWorld d.value.world (module_world home.now rows (shown_view d.value.shown))) }
+    ensures faults { IfOk result (λ d. (rows : Rows) → IsEnvOf imported rows → findings.new.items
+        ≡ findings.old.items ++ declared_faults (module_world home.now rows (shown_view d.value.shown))
+        (map (tree_view.declaration_view (tokens_view tokens.now)) declarations.now)) }
+{
+    boxed(
+        alloc,
+        declared_types(
+            alloc,
+            tokens,
+            home,
+            imported,
+            values,
+            declarations.all(),
+            findings,
+        ),
+    )
+}
+
 /// What a module declares, and what it can name. The faults of its types are added to `findings`.
 fn declared(
     alloc: Global,
     tokens: &[Token<'_>],
     setting: &Setting<'_>,
     names: &Names,
-    declarations: &[Declaration],
+    declarations: &Declarations<'_>,
     findings: &mut Vec<Finding>,
 ) -> Result<Box<Declared>, AllocError>
     ensures values { IfOk result (λ d. (shown_view d.value.shown).values
@@ -128,7 +166,7 @@ fn declared(
 {
     let values = names_of(alloc, tokens, &names.values)?;
     let imported = Env::of(alloc, setting.imports)?;
-    let declared = declared_types(
+    types_of(
         alloc,
         tokens,
         setting.home,
@@ -136,8 +174,7 @@ fn declared(
         values,
         declarations,
         findings,
-    )?;
-    Ok(Box::new(alloc, declared)?)
+    )
 }
 
 /// The constructors that a module declares, and then the groups of its values. The faults in its values and ports are
@@ -148,7 +185,7 @@ fn meanings(
     home: &Name,
     world: &World,
     log: &mut Log,
-    declarations: &[Declaration],
+    declarations: &Declarations<'_>,
 ) -> Result<Vec<canon::Declaration>, AllocError>
     requires { AreLiterals (tokens_view tokens.now) }
     ensures meaning { IfOk result (λ v. (w : naming.World) → IsWorld world.now w → w.name ≡ home.now
@@ -222,10 +259,10 @@ fn begin(
         (imported_rows (map known_view setting.now.imports.now)) (shown_view b.declared.value.shown))
         (tree_view.module_view (tokens_view tokens.now) parsed.now).declarations) }
 {
-    let declarations = parsed.declarations.as_slice();
-    let names = Names::of(alloc, declarations)?;
+    let declarations = Declarations::of(parsed);
+    let names = Names::of(alloc, &declarations)?;
     let mut findings = heading_faults(alloc, tokens, setting, &names, &parsed.head.header)?;
-    let declared = declared(alloc, tokens, setting, &names, declarations, &mut findings)?;
+    let declared = declared(alloc, tokens, setting, &names, &declarations, &mut findings)?;
     Ok(Begun { declared, findings })
 }
 
@@ -244,20 +281,20 @@ fn valued(
     home: &Name,
     world: &World,
     findings: Vec<Finding>,
-    declarations: &[Declaration],
-) -> Result<Contents, AllocError>
+    declarations: &Declarations<'_>,
+) -> Result<Box<Contents>, AllocError>
     requires { AreLiterals (tokens_view tokens.now) }
     ensures declarations { IfOk result (λ v. (w : naming.World) → IsWorld world.now w → w.name ≡ home.now
-        → map declaration_view v.declarations.items ≡ flat_map (spec.makers_in home.now)
+        → map declaration_view v.value.declarations.items ≡ flat_map (spec.makers_in home.now)
         (map (tree_view.declaration_view (tokens_view tokens.now)) declarations.now)
         ++ value_groups w (map (tree_view.declaration_view (tokens_view tokens.now)) declarations.now)) }
     ensures ports { IfOk result (λ v. (w : naming.World) → IsWorld world.now w
-        → map port_declaration_view v.ports.items ≡ flat_map (spec.ports_in w)
+        → map port_declaration_view v.value.ports.items ≡ flat_map (spec.ports_in w)
         (map (tree_view.declaration_view (tokens_view tokens.now)) declarations.now)) }
     ensures faults { IfOk result (λ v. (w : naming.World) → IsWorld world.now w → w.name ≡ home.now
         → IsInOrder (findings.items
         ++ value_faults w (map (tree_view.declaration_view (tokens_view tokens.now)) declarations.now))
-        v.faults.items) }
+        v.value.faults.items) }
 {
     let mut log = Log {
         findings,
@@ -266,11 +303,43 @@ fn valued(
     let meanings = meanings(alloc, tokens, home, world, &mut log, declarations)?;
     let ports = ports(alloc, tokens, world, declarations)?;
     let faults = in_order(alloc, log.findings)?;
-    Ok(Contents {
-        declarations: meanings,
+    let contents = in_box(
+        alloc,
+        Contents {
+            declarations: meanings,
+            ports,
+            faults,
+        },
+    )?;
+    Ok(contents)
+}
+
+/// A module with its types, its ports and its values, with what it shows and its faults.
+fn whole(
+    name: Name,
+    declared: Box<Declared>,
+    contents: Box<Contents>,
+    shown: Box<Shown>,
+) -> Resolved
+    ensures name { (module_view result.module).name ≡ name }
+    ensures unions { (module_view result.module).unions ≡ (shown_view declared.value.shown).unions }
+    ensures aliases { (module_view result.module).aliases ≡ (shown_view declared.value.shown).aliases }
+    ensures ports { (module_view result.module).ports ≡ map port_declaration_view contents.value.ports.items }
+    ensures declarations { (module_view result.module).declarations
+        ≡ map declaration_view contents.value.declarations.items }
+    ensures shown { result.shown ≡ shown.value }
+    ensures faults { result.faults ≡ contents.value.faults }
+{
+    let Contents {
+        declarations,
         ports,
         faults,
-    })
+    } = Box::into_inner(contents);
+    Resolved {
+        module: assembled(name, declared, ports, declarations),
+        shown: Box::into_inner(shown),
+        faults,
+    }
 }
 
 /// What the module `parsed` means, which is of the text of the tokens `tokens`, as the lexer makes them; what it shows
@@ -297,28 +366,21 @@ pub fn resolve(
         (spec.module_faults (setting_view (tokens_view tokens.now) setting.now)
         (tree_view.module_view (tokens_view tokens.now) parsed.now) (module_view r.module)) r.faults.items) }
 {
-    let declarations = parsed.declarations.as_slice();
+    let declarations = Declarations::of(parsed);
     let begun = begin(alloc, tokens, setting, parsed)?;
     let Begun { declared, findings } = begun;
     let world = &declared.world;
-    let valued = valued(alloc, tokens, setting.home, world, findings, declarations)?;
-    let shown = shown_of(
+    let valued = valued(alloc, tokens, setting.home, world, findings, &declarations)?;
+    let shown = boxed(
         alloc,
-        tokens,
-        &parsed.head.header,
-        setting.given,
-        &declared.shown,
+        shown_of(
+            alloc,
+            tokens,
+            &parsed.head.header,
+            setting.given,
+            &declared.shown,
+        ),
     )?;
     let name = setting.home.clone()?;
-    let Contents {
-        declarations: meanings,
-        ports,
-        faults,
-    } = valued;
-    let module = assembled(name, declared, ports, meanings);
-    Ok(Resolved {
-        module,
-        shown,
-        faults,
-    })
+    Ok(whole(name, declared, valued, shown))
 }

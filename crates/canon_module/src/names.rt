@@ -7,6 +7,7 @@ ghost use Rattle.elm_tree.specs.View as tree_view;
 ghost use Rattle.canon_module.specs.Names as spec;
 ghost use Rattle.canon_module.specs.View.{names_view};
 
+use crate::written::{Declarations, Written};
 use elm_tree::tree::{Constructor, Declaration, Definition, TypeTree, Word};
 use std::alloc::{AllocError, Global};
 
@@ -85,6 +86,15 @@ impl Names {
         }
     }
 
+    /// Adds the name of a definition.
+    fn push_value(&mut self, definition: &Definition) -> Result<(), AllocError>
+        ensures { OnOk result ((tokens : List lexed.Token) → names_view tokens self.new
+            ≡ spec.join (names_view tokens self.old)
+            (spec.names_of (tree.Value (tree_view.definition_view tokens definition.now)))) }
+    {
+        push_defined(&mut self.values, definition)
+    }
+
     /// Adds the name of a port.
     fn push_port(&mut self, name: Word) -> Result<(), AllocError>
         ensures { OnOk result ((tokens : List lexed.Token) → (t : tree.TypeTree) → names_view tokens self.new
@@ -122,13 +132,13 @@ impl Names {
     }
 
     /// Adds the names of one declaration.
-    fn push(&mut self, declaration: &Declaration) -> Result<(), AllocError>
+    fn push(&mut self, declaration: &Written<'_>) -> Result<(), AllocError>
         ensures { OnOk result ((tokens : List lexed.Token) → names_view tokens self.new
             ≡ spec.join (names_view tokens self.old)
             (spec.names_of (tree_view.declaration_view tokens declaration.now))) }
     {
-        match declaration {
-            Declaration::Value(definition) => push_defined(&mut self.values, definition),
+        match declaration.get() {
+            Declaration::Value(definition) => self.push_value(definition),
             Declaration::Port(name, _) => self.push_port(*name),
             Declaration::Union(name, _, constructors) => self.push_union(*name, constructors),
             Declaration::Alias(name, _, written) => self.push_alias(*name, written),
@@ -136,19 +146,20 @@ impl Names {
     }
 
     /// Adds the names of declarations.
-    fn fill(&mut self, declarations: &[Declaration]) -> Result<(), AllocError>
+    fn fill(&mut self, declarations: &Declarations<'_>) -> Result<(), AllocError>
         ensures { OnOk result ((tokens : List lexed.Token) → names_view tokens self.new
             ≡ spec.join (names_view tokens self.old)
             (spec.names_in (map (tree_view.declaration_view tokens) declarations.now))) }
     {
-        for declaration in declarations {
-            self.push(declaration)?;
+        for number in 0..declarations.len() {
+            let declaration = declarations.at(number);
+            self.push(&declaration)?;
         }
         Ok(())
     }
 
     /// The names that these declarations declare, of whatever tokens they are. The error means that memory ran out.
-    pub fn of(alloc: Global, declarations: &[Declaration]) -> Result<Names, AllocError>
+    pub fn of(alloc: Global, declarations: &Declarations<'_>) -> Result<Names, AllocError>
         ensures { IfOk result (λ n. (tokens : List lexed.Token) → names_view tokens n
             ≡ spec.names_in (map (tree_view.declaration_view tokens) declarations.now)) }
     {

@@ -10,6 +10,7 @@ ghost use Rattle.canon_module.specs.Names as names;
 ghost use Rattle.canon_module.specs.TopUses as spec;
 ghost use Rattle.canon_module.specs.TopUsesKept.{Numbered, one_word};
 
+use crate::written::{Declarations, Written};
 use canon_env::import::word_name;
 use elm_base::names::Name;
 use elm_canon::reference::Ref;
@@ -38,11 +39,11 @@ fn defined_word(definition: &Definition) -> Option<Word>
 }
 
 /// The word that a declaration declares as a value.
-fn value_word(declaration: &Declaration) -> Option<Word>
+fn value_word(declaration: &Written<'_>) -> Option<Word>
     ensures { (tokens : List lexed.Token) → one_word tokens result
         ≡ (names.names_of (declaration_view tokens declaration.now)).values }
 {
-    match declaration {
+    match declaration.get() {
         Declaration::Value(definition) => defined_word(definition),
         Declaration::Port(name, _) => Some(*name),
         Declaration::Union(_, _, _) => None,
@@ -68,7 +69,7 @@ impl Numbers {
         &mut self,
         alloc: Global,
         tokens: &[Token<'_>],
-        declaration: &Declaration,
+        declaration: &Written<'_>,
         number: u32,
     ) -> Result<(), AllocError>
         ensures { OnOk result ((each : List (List Name)) → length each ≡ number → Numbered self.old each
@@ -86,7 +87,7 @@ impl Numbers {
     pub fn of(
         alloc: Global,
         tokens: &[Token<'_>],
-        declarations: &[Declaration],
+        declarations: &Declarations<'_>,
     ) -> Result<Numbers, AllocError>
         ensures numbered { IfOk result (λ n. Numbered n (spec.value_names_each
             (map (declaration_view (tokens_view tokens.now)) declarations.now))) }
@@ -99,7 +100,8 @@ impl Numbers {
             by_name: IndexMap::new(alloc),
         };
         for number in 0..count {
-            numbers.add_declaration(alloc, tokens, &declarations[number as usize], number)?;
+            let declaration = declarations.at(number as usize);
+            numbers.add_declaration(alloc, tokens, &declaration, number)?;
         }
         Ok(numbers)
     }

@@ -1,6 +1,6 @@
 //! The ports that a module declares.
 
-ghost use Rattle.std.specs.Prelude.{◌≡◌, ◌++◌, ◌∷◌, [], map, flat_map, IfOk, OnOk};
+ghost use Rattle.std.specs.Prelude.{◌≡◌, ◌++◌, ◌∷◌, [], map, flat_map, IfOk, OnOk, IsOkAnd};
 ghost use Rattle.elm_tree.specs.View as tree_view;
 ghost use Rattle.elm_tree.specs.Turns.{tokens_view};
 ghost use Rattle.elm_canon.specs.View.{port_declaration_view};
@@ -8,7 +8,9 @@ ghost use Rattle.canon_env.specs.Naming as naming;
 ghost use Rattle.canon_env.specs.Naming.{IsWorld};
 ghost use Rattle.canon_module.specs.Resolve.{ports_in};
 
+use crate::outcomes::put;
 use crate::port::{Port, resolve};
+use crate::written::{Declarations, Written};
 use canon_env::env::World;
 use elm_canon::tree::PortDeclaration;
 use elm_lexer::token::Token;
@@ -22,12 +24,17 @@ fn declaration_part(port: Port) -> PortDeclaration
     port.declaration
 }
 
-/// Adds what a port declares.
-fn push_declaration(ports: &mut Vec<PortDeclaration>, port: Port) -> Result<(), AllocError>
-    ensures { OnOk result (ports.new.items ≡ ports.old.items ++ port.declaration ∷ []) }
+/// Adds what a port declares, if it is made.
+fn push_declaration(
+    ports: &mut Vec<PortDeclaration>,
+    made: Result<Port, AllocError>,
+) -> Result<(), AllocError>
+    ensures { OnOk result (IsOkAnd made (λ port. ports.new.items ≡ ports.old.items ++ port.declaration ∷ [])) }
 {
-    ports.push(declaration_part(port))?;
-    Ok(())
+    match made {
+        Ok(port) => put(ports, declaration_part(port)),
+        Err(e) => Err(e),
+    }
 }
 
 /// Adds the port that a declaration is, if it is one.
@@ -35,19 +42,21 @@ fn push_port(
     alloc: Global,
     tokens: &[Token<'_>],
     world: &World,
-    declaration: &Declaration,
+    declaration: &Written<'_>,
     ports: &mut Vec<PortDeclaration>,
 ) -> Result<(), AllocError>
     ensures { OnOk result ((w : naming.World) → IsWorld world.now w → map port_declaration_view ports.new.items
         ≡ map port_declaration_view ports.old.items
         ++ ports_in w (tree_view.declaration_view (tokens_view tokens.now) declaration.now)) }
 {
-    match declaration {
+    match declaration.get() {
         Declaration::Value(_) => Ok(()),
         Declaration::Port(name, written) => {
             let mut known = Vec::new(alloc);
-            let port = resolve(alloc, tokens, world, *name, written, &mut known)?;
-            push_declaration(ports, port)
+            push_declaration(
+                ports,
+                resolve(alloc, tokens, world, *name, written, &mut known),
+            )
         }
         Declaration::Union(_, _, _) => Ok(()),
         Declaration::Alias(_, _, _) => Ok(()),
@@ -59,14 +68,15 @@ pub(crate) fn ports(
     alloc: Global,
     tokens: &[Token<'_>],
     world: &World,
-    declarations: &[Declaration],
+    declarations: &Declarations<'_>,
 ) -> Result<Vec<PortDeclaration>, AllocError>
     ensures { IfOk result (λ v. (w : naming.World) → IsWorld world.now w → map port_declaration_view v.items
         ≡ flat_map (ports_in w) (map (tree_view.declaration_view (tokens_view tokens.now)) declarations.now)) }
 {
     let mut ports = Vec::new(alloc);
-    for declaration in declarations {
-        push_port(alloc, tokens, world, declaration, &mut ports)?;
+    for number in 0..declarations.len() {
+        let declaration = declarations.at(number);
+        push_port(alloc, tokens, world, &declaration, &mut ports)?;
     }
     Ok(ports)
 }

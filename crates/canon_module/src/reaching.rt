@@ -10,6 +10,7 @@ ghost use Rattle.canon_expr.specs.Blocks.{reaching_sites};
 ghost use Rattle.canon_expr.specs.Kept.{IsOrderOf};
 ghost use Rattle.canon_module.specs.CanonValuesFaults.{defined_top};
 
+use crate::written::{Declarations, Written};
 use canon_expr::log::Log;
 use canon_expr::order::Order;
 use canon_expr::reaching::{marks_in, note_recursion};
@@ -22,13 +23,13 @@ fn note_one(
     alloc: Global,
     tokens: &[Token<'_>],
     log: &mut Log,
-    declaration: &Declaration,
+    declaration: &Written<'_>,
     reaches: bool,
 ) -> Result<(), AllocError>
     ensures { OnOk result ((w : naming.World) → Grows w log.old log.new
         (Reaching reaches (defined_top (declaration_view (tokens_view tokens.now) declaration.now)) ∷ [])) }
 {
-    match declaration {
+    match declaration.get() {
         Declaration::Value(definition) => note_recursion(alloc, tokens, log, definition, reaches),
         Declaration::Port(_, _) => Ok(()),
         Declaration::Union(_, _, _) => Ok(()),
@@ -43,15 +44,16 @@ pub fn note_reaching(
     tokens: &[Token<'_>],
     log: &mut Log,
     order: &Order,
-    declarations: &[Declaration],
+    declarations: &Declarations<'_>,
 ) -> Result<(), AllocError>
     ensures { OnOk result ((w : naming.World) (uses : List (List ℕ)) → IsOrderOf order.now uses
         → length uses ≡ length declarations.now → Grows w log.old log.new (reaching_sites uses
         (map defined_top (map (declaration_view (tokens_view tokens.now)) declarations.now)))) }
 {
     let marks = marks_in(alloc, order, declarations.len())?;
-    for (number, declaration) in declarations.iter().enumerate() {
-        note_one(alloc, tokens, log, declaration, marks[number])?;
+    for number in 0..declarations.len() {
+        let declaration = declarations.at(number);
+        note_one(alloc, tokens, log, &declaration, marks[number])?;
     }
     Ok(())
 }

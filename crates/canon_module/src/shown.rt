@@ -12,6 +12,7 @@ ghost use Rattle.canon_env.specs.Filter.{Filters, filter_value, filter_type, fil
 ghost use Rattle.canon_env.specs.Shown.{shown_view, unions_view, aliases_view};
 ghost use Rattle.canon_module.specs.Offers as spec;
 
+use crate::outcomes::put;
 use canon_env::filter::Filter;
 use canon_env::import::{Exposing, exposing_names};
 use canon_env::shown::Shown;
@@ -46,7 +47,7 @@ fn values(alloc: Global, passing: &Filter, all: &[Name]) -> Result<Vec<Name>, Al
     let mut values = Vec::new(alloc);
     for name in all {
         if passing.passes_value(name) {
-            values.push(name.clone()?)?;
+            put(&mut values, name.clone()?)?;
         }
     }
     Ok(values)
@@ -78,7 +79,7 @@ fn copied(alloc: Global, names: &[Name]) -> Result<Vec<Name>, AllocError>
 {
     let mut copies = Vec::with_capacity(alloc, names.len())?;
     for name in names {
-        copies.push(name.clone()?)?;
+        put(&mut copies, name.clone()?)?;
     }
     Ok(copies)
 }
@@ -126,7 +127,7 @@ fn push_unions(
 {
     for union in all {
         if passing.passes_type(&union.name) {
-            unions.push(offered(alloc, passing, union)?)?;
+            put(unions, offered(alloc, passing, union)?)?;
         }
     }
     Ok(())
@@ -144,7 +145,7 @@ fn aliases(
     let mut aliases = Vec::new(alloc);
     for alias in all {
         if passing.passes_type(&alias.name) {
-            aliases.push(Arc::try_clone(alias)?)?;
+            put(&mut aliases, Arc::try_clone(alias)?)?;
         }
     }
     Ok(aliases)

@@ -20,13 +20,13 @@ use crate::numbers::Numbers;
 use crate::reaching::note_reaching;
 use crate::uses::used_among;
 use crate::walk::items;
+use crate::written::Declarations;
 use canon_env::env::World;
 use canon_expr::log::Log;
 use canon_expr::order::Order;
 use elm_base::names::Name;
 use elm_canon::tree;
 use elm_lexer::token::Token;
-use elm_tree::tree::Declaration;
 use std::alloc::{AllocError, Global};
 
 /// For each of the declarations the places of those that it uses, by what they mean.
@@ -34,7 +34,7 @@ fn used_in(
     alloc: Global,
     tokens: &[Token<'_>],
     home: &Name,
-    declarations: &[Declaration],
+    declarations: &Declarations<'_>,
     items: &[Item],
 ) -> Result<Vec<Vec<u32>>, AllocError>
     ensures count { IfOk result (λ v. length v.items ≡ length items.now) }
@@ -61,7 +61,7 @@ pub fn values(
     home: &Name,
     world: &World,
     log: &mut Log,
-    declarations: &[Declaration],
+    declarations: &Declarations<'_>,
 ) -> Result<Vec<tree::Declaration>, AllocError>
     requires { AreLiterals (tokens_view tokens.now) }
     ensures meaning { IfOk result (λ v. (w : naming.World) → IsWorld world.now w → w.name ≡ home.now

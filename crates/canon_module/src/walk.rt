@@ -26,8 +26,11 @@ ghost use Rattle.canon_module.specs.Ports.{port_faults};
 ghost use Rattle.canon_module.specs.CanonValuesFaults.{declaration_faults};
 ghost use Rattle.canon_module.specs.CanonValuesKept.{item_view};
 
+use crate::before::Before;
 use crate::item::{Item, PortFunction};
+use crate::outcomes::{boxed, done, in_box, put, when_done};
 use crate::port::{Port, resolve};
+use crate::written::{Declarations, Written};
 use canon_env::env::World;
 use canon_env::finding::Finding;
 use canon_env::import::word_name;
@@ -42,7 +45,7 @@ use canon_expr::words::words_of_all;
 use canon_type::annotation::annotation;
 use elm_base::names::Name;
 use elm_canon::reference::Ref;
-use elm_canon::tree::{Annotation, Expr, Known, Pattern};
+use elm_canon::tree::{Expr, Pattern};
 use elm_lexer::token::Token;
 use elm_tree::tree;
 use elm_tree::tree::{Declaration, Definition, TypeTree, Word};
@@ -55,13 +58,6 @@ fn top_name(alloc: Global, tokens: &[Token<'_>], home: &Name, word: Word) -> Res
     Ok(Ref::Top(home.clone()?, word_name(alloc, tokens, word)?))
 }
 
-/// No annotation stands before the next declaration.
-fn forget(before: &mut Option<Annotation>)
-    ensures { before.new ≡ None }
-{
-    *before = None;
-}
-
 /// Keeps what a written type means as the annotation before the next declaration. Its faults are added to `findings`.
 fn annotate(
     alloc: Global,
@@ -69,22 +65,24 @@ fn annotate(
     world: &World,
     written: &TypeTree,
     findings: &mut Vec<Finding>,
-    before: &mut Option<Annotation>,
+    before: &mut Before,
 ) -> Result<(), AllocError>
     ensures meaning { OnOk result ((w : naming.World) → IsWorld world.now w → option_map annotation_view before.new
         ≡ Some (type_of w (tree_view.type_view (tokens_view tokens.now) written.now))) }
     ensures faults { OnOk result ((w : naming.World) → IsWorld world.now w → findings.new.items ≡ findings.old.items
         ++ flat_map (faults_at w) (type_sites w (tree_view.type_view (tokens_view tokens.now) written.now))) }
 {
-    *before = Some(annotation(alloc, tokens, world, written, findings)?);
-    Ok(())
+    before.keep(annotation(alloc, tokens, world, written, findings))
 }
 
 /// A definition as a declaration.
 fn value_item(alloc: Global, made: Made) -> Result<Item, AllocError>
     ensures { IfOk result (λ i. item_view i ≡ spec.ValueItem (made_view made)) }
 {
-    Ok(Item::Value(Box::new(alloc, made)?))
+    match in_box(alloc, made) {
+        Ok(made) => Ok(Item::Value(made)),
+        Err(e) => Err(e),
+    }
 }
 
 /// What a definition by a name means, by what its parameters and its body mean, with the annotation that stands before
@@ -94,7 +92,7 @@ fn made_by(
     tokens: &[Token<'_>],
     title: Ref,
     name: Word,
-    before: &mut Option<Annotation>,
+    before: &mut Before,
     written: &[tree::Pattern],
     parameters: Vec<Pattern>,
     body: &tree::Expr,
@@ -133,7 +131,7 @@ fn named_in(
     name: Word,
     parameters: &[tree::Pattern],
     body: &tree::Expr,
-    before: &mut Option<Annotation>,
+    before: &mut Before,
 ) -> Result<Item, AllocError>
     requires literals { AreLiterals (tokens_view tokens.now) }
     requires alone { locals_of scope.old ≡ no_locals }
@@ -167,7 +165,7 @@ fn named(
     name: Word,
     parameters: &[tree::Pattern],
     body: &tree::Expr,
-    before: &mut Option<Annotation>,
+    before: &mut Before,
 ) -> Result<Item, AllocError>
     requires { AreLiterals (tokens_view tokens.now) }
     ensures meaning { IfOk result (λ i. (w : naming.World) → IsWorld world.now w → w.name ≡ home.now
@@ -198,8 +196,7 @@ fn note_pattern(
     ensures { OnOk result ((w : naming.World) → IsWorld world.now w → Grows w log.old log.new
         (match_sites (tree_view.pattern_view (tokens_view tokens.now) left.now))) }
 {
-    pattern(alloc, tokens, world, log, left)?;
-    Ok(())
+    done(pattern(alloc, tokens, world, log, left))
 }
 
 /// Notes what is wrong in an expression where no names are local.
@@ -246,7 +243,7 @@ fn definition(
     world: &World,
     log: &mut Log,
     definition: &Definition,
-    before: &mut Option<Annotation>,
+    before: &mut Before,
 ) -> Result<Item, AllocError>
     requires { AreLiterals (tokens_view tokens.now) }
     ensures meaning { IfOk result (λ i. (w : naming.World) → IsWorld world.now w → w.name ≡ home.now
@@ -259,39 +256,44 @@ fn definition(
         ≡ annotation_of w (definition_view (tokens_view tokens.now) definition.now)) }
 {
     match definition {
-        Definition::Annotate(_, annotated) => {
-            annotate(alloc, tokens, world, annotated, &mut log.findings, before)?;
-            Ok(Item::Nothing)
-        }
+        Definition::Annotate(_, annotated) => when_done(
+            annotate(alloc, tokens, world, annotated, &mut log.findings, before),
+            Item::Nothing,
+        ),
         Definition::Define(name, parameters, body) => {
             named(
                 alloc, tokens, home, world, log, *name, parameters, body, before,
             )
         }
         Definition::Destructure(left, body) => {
-            forget(before);
-            note_parts(alloc, tokens, world, log, left, body)?;
-            Ok(Item::Nothing)
+            before.forget();
+            when_done(
+                note_parts(alloc, tokens, world, log, left, body),
+                Item::Nothing,
+            )
         }
     }
 }
 
-/// What a port is as a function without a body.
-fn known_part(port: Port) -> Known
-    ensures { result ≡ port.known }
+/// What a port is as a function without a body, by its name.
+fn function_of(name: Ref, port: Box<Port>) -> PortFunction
+    ensures name { result.name ≡ name }
+    ensures known { result.known ≡ port.value.known }
 {
-    port.known
+    PortFunction {
+        name,
+        known: Box::into_inner(port).known,
+    }
 }
 
 /// A port as a declaration.
-fn port_item(alloc: Global, name: Ref, port: Port) -> Result<Item, AllocError>
-    ensures { IfOk result (λ i. item_view i ≡ spec.PortItem name (known_view port.known)) }
+fn port_item(alloc: Global, name: Ref, port: Box<Port>) -> Result<Item, AllocError>
+    ensures { IfOk result (λ i. item_view i ≡ spec.PortItem name (known_view port.value.known)) }
 {
-    let function = PortFunction {
-        name,
-        known: known_part(port),
-    };
-    Ok(Item::Port(Box::new(alloc, function)?))
+    match in_box(alloc, function_of(name, port)) {
+        Ok(function) => Ok(Item::Port(function)),
+        Err(e) => Err(e),
+    }
 }
 
 /// What a port means.
@@ -312,8 +314,13 @@ fn declared_port(
         (tree_view.type_view (tokens_view tokens.now) written.now)) }
 {
     let title = top_name(alloc, tokens, home, name)?;
-    let port = resolve(alloc, tokens, world, name, written, findings)?;
-    port_item(alloc, title, port)
+    match boxed(
+        alloc,
+        resolve(alloc, tokens, world, name, written, findings),
+    ) {
+        Ok(port) => port_item(alloc, title, port),
+        Err(e) => Err(e),
+    }
 }
 
 /// What a declaration means, with the annotation that stands before it. What then stands before the next one is the
@@ -324,8 +331,8 @@ fn item(
     home: &Name,
     world: &World,
     log: &mut Log,
-    declaration: &Declaration,
-    before: &mut Option<Annotation>,
+    declaration: &Written<'_>,
+    before: &mut Before,
 ) -> Result<Item, AllocError>
     requires { AreLiterals (tokens_view tokens.now) }
     ensures meaning { IfOk result (λ i. (w : naming.World) → IsWorld world.now w → w.name ≡ home.now
@@ -337,10 +344,10 @@ fn item(
     ensures before { OnOk result ((w : naming.World) → IsWorld world.now w → option_map annotation_view before.new
         ≡ spec.annotation_by w (declaration_view (tokens_view tokens.now) declaration.now)) }
 {
-    match declaration {
+    match declaration.get() {
         Declaration::Value(value) => definition(alloc, tokens, home, world, log, value, before),
         Declaration::Port(name, written) => {
-            forget(before);
+            before.forget();
             declared_port(
                 alloc,
                 tokens,
@@ -352,22 +359,14 @@ fn item(
             )
         }
         Declaration::Union(_, _, _) => {
-            forget(before);
+            before.forget();
             Ok(Item::Nothing)
         }
         Declaration::Alias(_, _, _) => {
-            forget(before);
+            before.forget();
             Ok(Item::Nothing)
         }
     }
-}
-
-/// Adds a declaration.
-fn push(items: &mut Vec<Item>, item: Item) -> Result<(), AllocError>
-    ensures { OnOk result (items.new.items ≡ items.old.items ++ item ∷ []) }
-{
-    items.push(item)?;
-    Ok(())
 }
 
 /// What the declarations `declarations` of the module `home` mean, in turn. They are of the text of the tokens `tokens`,
@@ -379,7 +378,7 @@ pub fn items(
     home: &Name,
     world: &World,
     log: &mut Log,
-    declarations: &[Declaration],
+    declarations: &Declarations<'_>,
 ) -> Result<Vec<Item>, AllocError>
     requires { AreLiterals (tokens_view tokens.now) }
     ensures count { IfOk result (λ v. length v.items ≡ length declarations.now) }
@@ -389,11 +388,12 @@ pub fn items(
         ≡ log.old.findings.items
         ++ flat_map (declaration_faults w) (map (declaration_view (tokens_view tokens.now)) declarations.now)) }
 {
-    let mut before = None;
+    let mut before = Before::none();
     let mut items = Vec::with_capacity(alloc, declarations.len())?;
-    for declaration in declarations {
-        let item = item(alloc, tokens, home, world, log, declaration, &mut before)?;
-        push(&mut items, item)?;
+    for number in 0..declarations.len() {
+        let declaration = declarations.at(number);
+        let item = item(alloc, tokens, home, world, log, &declaration, &mut before)?;
+        put(&mut items, item)?;
     }
     Ok(items)
 }

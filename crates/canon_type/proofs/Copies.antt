@@ -53,10 +53,9 @@ shared_again t a a' is e =
 
 pub field_again : (f : FieldType) (x : Name) (t : Annotation) → x ≡ f.name →
     annotation_view t ≡ annotation_view f.field_type →
-    field_type_view (record { name = x; field_type = t }) ≡ field_type_view f
+    (x, annotation_view t) ≡ field_type_view f
 field_again f x t ex et =
-    field_type (record { name = x; field_type = t })
-    ∙ ap (λ z. (z, annotation_view t)) ex ∙ ap (λ z. (f.name, z)) et ∙ sym (field_type f)
+    ap (λ z. (z, annotation_view t)) ex ∙ ap (λ z. (f.name, z)) et ∙ sym (field_type f)
 
 -- ---- functions of so many types
 

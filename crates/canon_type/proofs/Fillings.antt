@@ -6,7 +6,7 @@ use Rattle.std.specs.Prelude.{option_map, unwrap_or, is_some, flat_map}
 use Rattle.elm_canon.specs.Names.{Name, same_name}
 use Rattle.elm_canon.specs.Tree as plain
 use Rattle.elm_canon.specs.Tree.{annotations_of, field_types_of}
-use Rattle.elm_canon.specs.View.{annotation_view, field_type_view, types_view, function_to, function_type, NamedType}
+use Rattle.elm_canon.specs.View.{annotation_view, field_type_view, types_view, function_to, function_type, record_type, NamedType}
 use Rattle.elm_canon.specs.declared.tree.Annotation.{Annotation}
 use Rattle.elm_canon.specs.declared.tree.Annotation.TheVariants as annotation
 use Rattle.elm_canon.specs.declared.tree.FieldType.{FieldType}
@@ -16,7 +16,7 @@ use Rattle.canon_env.proofs.Filtering.{map_next}
 use Rattle.canon_env.proofs.Adding.{one_name}
 use Rattle.canon_env.specs.Expanding as sites
 use Rattle.canon_env.specs.Expanding.{filled_in, fill, fill_all, fill_fields, bad_fields, bad_in_all, bad_in_fields}
-use Rattle.canon_type.specs.Filling.{looked_up, entry, filled_field, bad_field}
+use Rattle.canon_type.specs.Filling.{looked_up, entry, filled_field, filled_over, bad_field}
 
 -- ---- one parameter more
 
@@ -143,34 +143,28 @@ tuple_filled s t ts ts' us is e d =
     ∙ ap plain.TupleType (sym (fill_all-list s (map annotation_view ts.items)))
     ∙ ap (fill s) (sym (ap annotation_view is ∙ tuple_type ts))
 
-pub record_filled : (s : sites.Filling) (t : Annotation) (b : Option Name) (fs fs' : Vec FieldType Global)
-    (us : List FieldType) → t ≡ annotation.Record b fs → b ≡ None →
-    map field_type_view fs'.items ≡ map (filled_field s) (map field_type_view us) → us ≡ fs.items →
-    annotation_view (annotation.Record None fs') ≡ fill s (annotation_view t)
-record_filled s t b fs fs' us is none e d =
-    type_of_record None fs'
-    ∙ ap (λ z. plain.RecordType (field_types_of z)) (e ∙ ap (λ w. map (filled_field s) (map field_type_view w)) d)
-    ∙ ap plain.RecordType (sym (fill_fields-list s (map field_type_view fs.items)))
-    ∙ ap (fill s) (sym (ap annotation_view (is ∙ ap (λ z. annotation.Record z fs) none) ∙ type_of_record None fs))
-
-pub extended_filled : (s : sites.Filling) (t r : Annotation) (b : Option Name) (a : Name) (fs : Vec FieldType Global)
-    (gs us : List FieldType) → t ≡ annotation.Record b fs → b ≡ Some a →
-    annotation_view r ≡ sites.extended (filled_in s a) (field_types_of (map field_type_view gs)) →
+pub over_filled : (s : sites.Filling) (t r : Annotation) (b : Option Name) (fs : Vec FieldType Global)
+    (gs us : List FieldType) → t ≡ annotation.Record b fs →
+    annotation_view r ≡ filled_over s b (field_types_of (map field_type_view gs)) →
     map field_type_view gs ≡ map (filled_field s) (map field_type_view us) → us ≡ fs.items →
     annotation_view r ≡ fill s (annotation_view t)
-extended_filled s t r b a fs gs us is some v e d =
+over_filled s t r b fs gs us is v e d =
     v
-    ∙ ap (λ z. sites.extended (filled_in s a) (field_types_of z))
-    (e ∙ ap (λ w. map (filled_field s) (map field_type_view w)) d)
-    ∙ ap (sites.extended (filled_in s a)) (sym (fill_fields-list s (map field_type_view fs.items)))
-    ∙ ap (fill s) (sym (ap annotation_view (is ∙ ap (λ z. annotation.Record z fs) some) ∙ type_of_record (Some a) fs))
+    ∙ ap (λ z. filled_over s b (field_types_of z)) (e ∙ ap (λ w. map (filled_field s) (map field_type_view w)) d)
+    ∙ ap (filled_over s b) (sym (fill_fields-list s (map field_type_view fs.items)))
+    ∙ by b
+    ∙ ap (fill s) (sym (ap annotation_view is ∙ type_of_record b fs))
+  where
+    by : (o : Option Name) → filled_over s o (fill_fields s (field_types_of (map field_type_view fs.items)))
+        ≡ fill s (record_type o (map field_type_view fs.items))
+    by None = refl
+    by (Some a) = refl
 
 pub field_filled : (s : sites.Filling) (f : FieldType) (x : Name) (t : Annotation) → x ≡ f.name →
     annotation_view t ≡ fill s (annotation_view f.field_type) →
-    field_type_view (record { name = x; field_type = t }) ≡ filled_field s (field_type_view f)
+    (x, annotation_view t) ≡ filled_field s (field_type_view f)
 field_filled s f x t ex et =
-    field_type (record { name = x; field_type = t })
-    ∙ ap (λ z. (z, annotation_view t)) ex ∙ ap (λ z. (f.name, z)) et ∙ ap (filled_field s) (sym (field_type f))
+    ap (λ z. (z, annotation_view t)) ex ∙ ap (λ z. (f.name, z)) et ∙ ap (filled_field s) (sym (field_type f))
 
 -- ---- the fields that extend what they may not
 

@@ -1,7 +1,7 @@
 -- The walk over a written type: what each form means, and its faults, by those of its parts.
-use Rattle.std.proofs.Common.{◌≡◌, List, [], ◌∷◌, ◌++◌, length, map, refl, sym, ap, ◌∙◌}
+use Rattle.std.proofs.Common.{◌≡◌, List, [], ◌∷◌, ◌++◌, length, map, Option, None, Some, Vec, Global, refl, sym, ap, ◌∙◌}
 use Rattle.std.proofs.Common.{append_assoc, append-nil}
-use Rattle.std.specs.Prelude.{flat_map}
+use Rattle.std.specs.Prelude.{flat_map, option_map}
 use Rattle.std.proofs.lemmas.Grind.{flat_map-append}
 use Rattle.elm_lexer.specs.Tokens.{Token}
 use Rattle.elm_base.specs.declared.fault.Code.TheVariants.{DuplicateField}
@@ -22,10 +22,14 @@ use Rattle.canon_env.specs.Naming.{own_name, type_found}
 use Rattle.elm_canon.specs.Names.{Name}
 use Rattle.elm_canon.specs.View.{annotation_view, field_type_view, types_view}
 use Rattle.elm_canon.specs.declared.tree.Annotation.{Annotation}
-use Rattle.elm_canon.proofs.Views.{field_type}
+use Rattle.elm_canon.proofs.Views.{type_of_record}
+use Rattle.elm_canon.specs.declared.tree.Annotation.TheVariants as annotation
+use Rattle.elm_canon.specs.declared.tree.FieldType as made
 use Rattle.elm_tree.specs.declared.tree.FieldType.{FieldType}
 use Rattle.elm_tree.specs.declared.tree.Word as program
-use Rattle.elm_tree.proofs.Views.{field_of_type}
+use Rattle.elm_tree.specs.declared.tree.TypeTree as written
+use Rattle.elm_tree.specs.declared.tree.TypeTree.TheVariants as form
+use Rattle.elm_tree.proofs.Views.{field_of_type, record_of_type}
 use Rattle.canon_type.specs.Walking.{faults_in, named_of, field_faults, field_name}
 
 pub types_list : (w : World) (us : List TypeTree) → types_of w (tree.types_of us) ≡ annotations_of (map (type_of w) us)
@@ -130,10 +134,9 @@ module _ (w : World) (fs : List tree_view.NamedType) (gs : List NamedType) (same
 pub field_means : (w : World) (tokens : List Token) (f : FieldType) (x : Name) (t : Annotation) →
     x ≡ name_of (tree_view.word_view tokens f.name) →
     annotation_view t ≡ type_of w (tree_view.type_view tokens f.field_type) →
-    field_type_view (record { name = x; field_type = t }) ≡ named_of w (tree_view.field_type_view tokens f)
+    (x, annotation_view t) ≡ named_of w (tree_view.field_type_view tokens f)
 field_means w tokens f x t ex et =
-    field_type (record { name = x; field_type = t })
-    ∙ ap (λ z. (z, annotation_view t)) ex ∙ ap (λ z. (name_of (tree_view.word_view tokens f.name), z)) et
+    ap (λ z. (z, annotation_view t)) ex ∙ ap (λ z. (name_of (tree_view.word_view tokens f.name), z)) et
     ∙ ap (named_of w) (sym (field_of_type tokens f))
 
 function_forms : (u : plain.Annotation) (us : List plain.Annotation) →
@@ -217,3 +220,41 @@ module _ (w : World) (tokens : List Token) (fs gs : List FieldType) (same : gs �
       new ≡ old ++ faults_in w written
   unfolding all
   extended_record_faults written a whole = together_faults ∙ ap (λ t. old ++ faults_in w t) (sym whole)
+
+-- a record over a base, or over none
+pub over_means : (w : World) (tokens : List Token) (t : written.TypeTree) (b : Option program.Word)
+    (fs : Vec FieldType Global) (us : List FieldType) (r : Annotation) (v : Vec made.FieldType Global) →
+    t ≡ form.Record b fs → us ≡ fs.items →
+    r ≡ annotation.Record (option_map (λ a. name_of (tree_view.word_view tokens a)) b) v →
+    map field_type_view v.items ≡ map (named_of w) (map (tree_view.field_type_view tokens) us) →
+    annotation_view r ≡ type_of w (tree_view.type_view tokens t)
+over_means w tokens t None fs us r v is d e same =
+    record_means w (map (tree_view.field_type_view tokens) us) (map field_type_view v.items) same
+    (tree_view.type_view tokens t) (annotation_view r)
+    (ap (tree_view.type_view tokens) is ∙ record_of_type tokens None fs
+    ∙ ap (λ l. tree.RecordType (tree.field_types_of (map (tree_view.field_type_view tokens) l))) (sym d))
+    (ap annotation_view e ∙ type_of_record None v)
+over_means w tokens t (Some a) fs us r v is d e same =
+    extended_means w (map (tree_view.field_type_view tokens) us) (map field_type_view v.items) same
+    (tree_view.type_view tokens t) (annotation_view r) (tree_view.word_view tokens a)
+    (name_of (tree_view.word_view tokens a))
+    (ap (tree_view.type_view tokens) is ∙ record_of_type tokens (Some a) fs
+    ∙ ap (λ l. tree.ExtendedType (tree_view.word_view tokens a)
+    (tree.field_types_of (map (tree_view.field_type_view tokens) l))) (sym d))
+    (ap annotation_view e ∙ type_of_record (Some (name_of (tree_view.word_view tokens a))) v) refl
+
+pub over_faults : (w : World) (tokens : List Token) (t : written.TypeTree) (b : Option program.Word)
+    (fs : Vec FieldType Global) (us gs : List FieldType) (old mid new : List Finding) → t ≡ form.Record b fs →
+    us ≡ fs.items → gs ≡ fs.items →
+    mid ≡ old ++ flat_map (field_faults w) (map (tree_view.field_type_view tokens) us) →
+    new ≡ repeated_after tokens mid (map field_name gs) → new ≡ old ++ faults_in w (tree_view.type_view tokens t)
+over_faults w tokens t None fs us gs old mid new is d d' first next =
+    closed_record_faults w tokens us gs (d' ∙ sym d) old mid new first next (tree_view.type_view tokens t)
+    (ap (tree_view.type_view tokens) is ∙ record_of_type tokens None fs
+    ∙ ap (λ l. tree.RecordType (tree.field_types_of (map (tree_view.field_type_view tokens) l))) (sym d))
+over_faults w tokens t (Some a) fs us gs old mid new is d d' first next =
+    extended_record_faults w tokens us gs (d' ∙ sym d) old mid new first next (tree_view.type_view tokens t)
+    (tree_view.word_view tokens a)
+    (ap (tree_view.type_view tokens) is ∙ record_of_type tokens (Some a) fs
+    ∙ ap (λ l. tree.ExtendedType (tree_view.word_view tokens a)
+    (tree.field_types_of (map (tree_view.field_type_view tokens) l))) (sym d))

@@ -26,6 +26,11 @@ entry (a ∷ names) t = (a, t) ∷ []
 abbrev pub filled_field : sites.Filling → NamedType → NamedType
 filled_field s f = (f.0, fill s f.1)
 
+-- a record over what stands for its base
+abbrev pub filled_over : sites.Filling → Option Name → plain.FieldTypes → plain.Annotation
+filled_over s None fs = plain.RecordType fs
+filled_over s (Some a) fs = sites.extended (sites.filled_in s a) fs
+
 -- the fields that extend what they may not
 abbrev pub bad_field : sites.Filling → NamedType → List Name
 bad_field s f = bad_fields s f.1

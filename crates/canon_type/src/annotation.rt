@@ -1,16 +1,21 @@
 //! What a written type means.
 
-ghost use Rattle.std.specs.Prelude.{◌≡◌, ◌++◌, map, flat_map, IfOk, OnOk};
+ghost use Rattle.std.specs.Prelude.{◌≡◌, ◌++◌, map, flat_map, option_map, IfOk, OnOk, IsOkAnd};
+ghost use Rattle.elm_base.specs.declared.fault.Code.TheVariants.{DuplicateField};
 ghost use Rattle.elm_tree.specs.View as tree;
 ghost use Rattle.elm_tree.specs.Turns.{tokens_view};
 ghost use Rattle.elm_canon.specs.View.{annotation_view, field_type_view, types_view};
+ghost use Rattle.elm_canon.specs.declared.tree.Annotation.TheVariants as form;
+ghost use Rattle.canon_env.specs.Imports.{name_of};
 ghost use Rattle.canon_env.specs.Naming as naming;
 ghost use Rattle.canon_env.specs.Naming.{IsWorld};
 ghost use Rattle.canon_env.specs.Types.{function_of, type_of, type_sites};
-ghost use Rattle.canon_env.specs.Sites.{faults_at};
+ghost use Rattle.canon_env.specs.Sites.{faults_at, at_word, repeats};
 ghost use Rattle.canon_type.specs.Walking.{faults_in, field_faults, named_of, field_name};
 
+use crate::forming::{add_field, tuple_type};
 use crate::named::{blank, named};
+use crate::outcomes::add_made;
 use canon_env::env::World;
 use canon_env::finding::Finding;
 use canon_env::import::word_name;
@@ -33,14 +38,86 @@ fn field_words(alloc: Global, fields: &[tree::FieldType]) -> Result<Vec<Word>, A
     Ok(words)
 }
 
-/// A function with these parameters and the result after them. Of no types, which no text has, it has no meaning.
-fn function(alloc: Global, types: Vec<Annotation>) -> Result<Annotation, AllocError>
+/// A variable.
+fn variable(alloc: Global, tokens: &[Token<'_>], word: Word) -> Result<Annotation, AllocError>
+    ensures { IfOk result (λ t. t ≡ form.Variable (name_of (tree.word_view (tokens_view tokens.now) word))) }
+{
+    let name = word_name(alloc, tokens, word)?;
+    Ok(Annotation::Variable(name))
+}
+
+/// A function of these types. Of no types, which no text has, it has no meaning.
+fn function_of(alloc: Global, types: Vec<Annotation>) -> Result<Annotation, AllocError>
     ensures { IfOk result (λ t. annotation_view t ≡ function_of (types_view types.items)) }
 {
     if types.len() == 0 {
         return blank(alloc);
     }
     Ok(Annotation::Function(types))
+}
+
+/// A function with these parameters and the result after them, if they are made.
+fn function(
+    alloc: Global,
+    types: Result<Vec<Annotation>, AllocError>,
+) -> Result<Annotation, AllocError>
+    ensures { IfOk result (λ t. IsOkAnd types (λ v. annotation_view t ≡ function_of (types_view v.items))) }
+{
+    match types {
+        Ok(types) => function_of(alloc, types),
+        Err(e) => Err(e),
+    }
+}
+
+/// Adds the faults of fields whose names stand twice among these.
+fn push_field_repeats(
+    alloc: Global,
+    tokens: &[Token<'_>],
+    fields: &[tree::FieldType],
+    findings: &mut Vec<Finding>,
+) -> Result<(), AllocError>
+    ensures { OnOk result (findings.new.items ≡ findings.old.items ++ map (at_word DuplicateField)
+        (repeats (map (tree.word_view (tokens_view tokens.now)) (map field_name fields.now)))) }
+{
+    let words = field_words(alloc, fields)?;
+    push_repeats(alloc, tokens, Code::DuplicateField, &words, findings)
+}
+
+/// A record over this base.
+fn record_over(
+    alloc: Global,
+    tokens: &[Token<'_>],
+    base: Option<Word>,
+    types: Vec<FieldType>,
+) -> Result<Annotation, AllocError>
+    ensures { IfOk result (λ t. t ≡ form.Record
+        (option_map (λ a. name_of (tree.word_view (tokens_view tokens.now) a)) base) types) }
+{
+    match base {
+        None => Ok(Annotation::Record(None, types)),
+        Some(a) => {
+            let name = word_name(alloc, tokens, a)?;
+            Ok(Annotation::Record(Some(name), types))
+        }
+    }
+}
+
+/// A record with fields that are written so, by their types. Their names that stand twice are added to the faults.
+fn record(
+    alloc: Global,
+    tokens: &[Token<'_>],
+    base: Option<Word>,
+    fields: &[tree::FieldType],
+    types: Vec<FieldType>,
+    findings: &mut Vec<Finding>,
+) -> Result<Annotation, AllocError>
+    ensures meaning { IfOk result (λ t. t ≡ form.Record
+        (option_map (λ a. name_of (tree.word_view (tokens_view tokens.now) a)) base) types) }
+    ensures faults { OnOk result (findings.new.items ≡ findings.old.items ++ map (at_word DuplicateField)
+        (repeats (map (tree.word_view (tokens_view tokens.now)) (map field_name fields.now)))) }
+{
+    push_field_repeats(alloc, tokens, fields, findings)?;
+    record_over(alloc, tokens, base, types)
 }
 
 /// What the type `written` means, which is of the text of the tokens `tokens`, with its aliases expanded. Its faults
@@ -60,27 +137,18 @@ pub fn annotation(
         ++ flat_map (faults_at w) (type_sites w (tree.type_view (tokens_view tokens.now) written.now))) }
 {
     match written {
-        TypeTree::Variable(a) => Ok(Annotation::Variable(word_name(alloc, tokens, *a)?)),
+        TypeTree::Variable(a) => variable(alloc, tokens, *a),
         TypeTree::Named(name, types) => {
             let arguments = annotations(alloc, tokens, world, types, findings)?;
             named(alloc, tokens, world, *name, arguments, findings)
         }
         TypeTree::Function(types) => {
-            let types = annotations(alloc, tokens, world, types, findings)?;
-            function(alloc, types)
+            function(alloc, annotations(alloc, tokens, world, types, findings))
         }
-        TypeTree::Tuple(types) => {
-            let types = annotations(alloc, tokens, world, types, findings)?;
-            Ok(Annotation::Tuple(types))
-        }
+        TypeTree::Tuple(types) => tuple_type(annotations(alloc, tokens, world, types, findings)),
         TypeTree::Record(base, fields) => {
             let types = field_annotations(alloc, tokens, world, fields, findings)?;
-            let words = field_words(alloc, fields)?;
-            push_repeats(alloc, tokens, Code::DuplicateField, &words, findings)?;
-            match base {
-                None => Ok(Annotation::Record(None, types)),
-                Some(a) => Ok(Annotation::Record(Some(word_name(alloc, tokens, *a)?), types)),
-            }
+            record(alloc, tokens, *base, fields, types, findings)
         }
     }
 }
@@ -102,7 +170,8 @@ pub fn annotations(
 {
     let mut types = Vec::with_capacity(alloc, written.len())?;
     for one in written {
-        types.push(annotation(alloc, tokens, world, one, findings)?)?;
+        let made = annotation(alloc, tokens, world, one, findings);
+        add_made(&mut types, made)?;
     }
     Ok(types)
 }
@@ -123,11 +192,9 @@ fn field_annotations(
 {
     let mut types = Vec::with_capacity(alloc, written.len())?;
     for field in written {
-        let field_type = annotation(alloc, tokens, world, &field.field_type, findings)?;
-        types.push(FieldType {
-            name: word_name(alloc, tokens, field.name)?,
-            field_type,
-        })?;
+        let name = word_name(alloc, tokens, field.name)?;
+        let made = annotation(alloc, tokens, world, &field.field_type, findings);
+        add_field(&mut types, name, made)?;
     }
     Ok(types)
 }

@@ -3,20 +3,11 @@
 ghost use Rattle.std.specs.Prelude.{◌≡◌, map, IfOk};
 ghost use Rattle.elm_canon.specs.View.{annotation_view, field_type_view};
 
-use elm_base::names::Name;
+use crate::forming::{add_field, function_type, named_type, record_type, tuple_type};
+use crate::outcomes::add_made;
 use elm_canon::tree::{Annotation, FieldType};
 use std::alloc::{AllocError, Global};
 use std::sync::Arc;
-
-/// The variable that a record extends, once more.
-pub(crate) fn copy_base(base: &Option<Name>) -> Result<Option<Name>, AllocError>
-    ensures { IfOk result (λ r. r ≡ base.now) }
-{
-    match base {
-        Some(a) => Ok(Some(a.clone()?)),
-        None => Ok(None),
-    }
-}
 
 /// The type `t` once more. What it shares stays shared. The error means that memory ran out.
 #[cycle(copying)]
@@ -25,16 +16,10 @@ pub fn copy(alloc: Global, t: &Annotation) -> Result<Annotation, AllocError>
 {
     match t {
         Annotation::Variable(a) => Ok(Annotation::Variable(a.clone()?)),
-        Annotation::Named(home, name, types) => {
-            let types = copy_all(alloc, types)?;
-            Ok(Annotation::Named(home.clone()?, name.clone()?, types))
-        }
-        Annotation::Function(types) => Ok(Annotation::Function(copy_all(alloc, types)?)),
-        Annotation::Tuple(types) => Ok(Annotation::Tuple(copy_all(alloc, types)?)),
-        Annotation::Record(base, fields) => {
-            let fields = copy_fields(alloc, fields)?;
-            Ok(Annotation::Record(copy_base(base)?, fields))
-        }
+        Annotation::Named(home, name, types) => named_type(home, name, copy_all(alloc, types)),
+        Annotation::Function(types) => function_type(copy_all(alloc, types)),
+        Annotation::Tuple(types) => tuple_type(copy_all(alloc, types)),
+        Annotation::Record(base, fields) => record_type(base, copy_fields(alloc, fields)),
         Annotation::Shared(t) => Ok(Annotation::Shared(Arc::try_clone(t)?)),
     }
 }
@@ -46,7 +31,7 @@ fn copy_all(alloc: Global, types: &[Annotation]) -> Result<Vec<Annotation>, Allo
 {
     let mut copies = Vec::with_capacity(alloc, types.len())?;
     for t in types {
-        copies.push(copy(alloc, t)?)?;
+        add_made(&mut copies, copy(alloc, t))?;
     }
     Ok(copies)
 }
@@ -58,11 +43,8 @@ pub(crate) fn copy_fields(alloc: Global, fields: &[FieldType]) -> Result<Vec<Fie
 {
     let mut copies = Vec::with_capacity(alloc, fields.len())?;
     for field in fields {
-        let field_type = copy(alloc, &field.field_type)?;
-        copies.push(FieldType {
-            name: field.name.clone()?,
-            field_type,
-        })?;
+        let name = field.name.clone()?;
+        add_field(&mut copies, name, copy(alloc, &field.field_type))?;
     }
     Ok(copies)
 }

@@ -1,12 +1,14 @@
 //! Types with what stands for the parameters of an alias.
 
-ghost use Rattle.std.specs.Prelude.{◌≡◌, ◌++◌, [], ◌∷◌, drop, map, flat_map, IfOk, OnOk};
+ghost use Rattle.std.specs.Prelude.{◌≡◌, ◌++◌, [], ◌∷◌, drop, map, flat_map, IfOk, OnOk, IsOkAnd};
 ghost use Rattle.elm_canon.specs.Tree.{field_types_of};
 ghost use Rattle.elm_canon.specs.View.{annotation_view, field_type_view, types_view};
 ghost use Rattle.canon_env.specs.Expanding as sites;
-ghost use Rattle.canon_type.specs.Filling.{Fills, bad_field, entry, filled_field};
+ghost use Rattle.canon_type.specs.Filling.{Fills, bad_field, entry, filled_field, filled_over};
 
 use crate::extending::{extended, push_bad};
+use crate::forming::{add_field, extended_type, function_type, named_type, tuple_type};
+use crate::outcomes::add_made;
 use elm_base::names::Name;
 use elm_canon::tree::{Annotation, FieldType};
 use indexmap::IndexMap;
@@ -99,7 +101,39 @@ impl Filling {
     {
         match self.by_name.get(name) {
             Some(t) => extended(alloc, t, fields),
-            None => Ok(Annotation::Record(Some(name.clone()?), fields)),
+            None => extended_type(name, fields),
+        }
+    }
+
+    /// A record over what stands for its base, with the fields.
+    fn record_over(
+        &self,
+        alloc: Global,
+        base: &Option<Name>,
+        fields: Vec<FieldType>,
+    ) -> Result<Annotation, AllocError>
+        ensures { IfOk result (λ u. (s : sites.Filling) → Fills self.now s → annotation_view u
+            ≡ filled_over s base.now (field_types_of (map field_type_view fields.items))) }
+    {
+        match base {
+            None => Ok(Annotation::Record(None, fields)),
+            Some(a) => self.with_fields(alloc, a, fields),
+        }
+    }
+
+    /// The same, if the fields are made.
+    fn record(
+        &self,
+        alloc: Global,
+        base: &Option<Name>,
+        fields: Result<Vec<FieldType>, AllocError>,
+    ) -> Result<Annotation, AllocError>
+        ensures { IfOk result (λ u. IsOkAnd fields (λ v. (s : sites.Filling) → Fills self.now s → annotation_view u
+            ≡ filled_over s base.now (field_types_of (map field_type_view v.items)))) }
+    {
+        match fields {
+            Ok(fields) => self.record_over(alloc, base, fields),
+            Err(e) => Err(e),
         }
     }
 
@@ -141,17 +175,12 @@ pub fn fill(alloc: Global, t: &Annotation, filling: &Filling) -> Result<Annotati
     match t {
         Annotation::Variable(a) => filling.of_name(a),
         Annotation::Named(home, name, types) => {
-            let types = fill_all(alloc, types, filling)?;
-            Ok(Annotation::Named(home.clone()?, name.clone()?, types))
+            named_type(home, name, fill_all(alloc, types, filling))
         }
-        Annotation::Function(types) => Ok(Annotation::Function(fill_all(alloc, types, filling)?)),
-        Annotation::Tuple(types) => Ok(Annotation::Tuple(fill_all(alloc, types, filling)?)),
+        Annotation::Function(types) => function_type(fill_all(alloc, types, filling)),
+        Annotation::Tuple(types) => tuple_type(fill_all(alloc, types, filling)),
         Annotation::Record(base, fields) => {
-            let fields = fill_fields(alloc, fields, filling)?;
-            match base {
-                None => Ok(Annotation::Record(None, fields)),
-                Some(a) => filling.with_fields(alloc, a, fields),
-            }
+            filling.record(alloc, base, fill_fields(alloc, fields, filling))
         }
         Annotation::Shared(t) => fill(alloc, t, filling),
     }
@@ -169,7 +198,7 @@ fn fill_all(
 {
     let mut filled = Vec::with_capacity(alloc, types.len())?;
     for t in types {
-        filled.push(fill(alloc, t, filling)?)?;
+        add_made(&mut filled, fill(alloc, t, filling))?;
     }
     Ok(filled)
 }
@@ -186,11 +215,8 @@ fn fill_fields(
 {
     let mut filled = Vec::with_capacity(alloc, fields.len())?;
     for field in fields {
-        let field_type = fill(alloc, &field.field_type, filling)?;
-        filled.push(FieldType {
-            name: field.name.clone()?,
-            field_type,
-        })?;
+        let name = field.name.clone()?;
+        add_field(&mut filled, name, fill(alloc, &field.field_type, filling))?;
     }
     Ok(filled)
 }

@@ -9,6 +9,7 @@ pub mod declaring;
 pub mod expanding;
 pub mod extending;
 pub mod filling;
+mod forming;
 mod heights;
 mod named;
 mod outcomes;

@@ -1,7 +1,7 @@
 //! Values and what was done to them. A function that holds large values leaves to these what happens after an error, so
 //! that the proof does not tell of those values once for each of its ways out.
 
-ghost use Rattle.std.specs.Prelude.{◌≡◌, Ok, IfOk, OnOk, IsOkAnd};
+ghost use Rattle.std.specs.Prelude.{◌≡◌, ◌++◌, ◌∷◌, [], Ok, IfOk, OnOk, IsOkAnd};
 ghost use Rattle.std.specs.Result.{result_and};
 
 use std::alloc::{AllocError, Global};
@@ -38,6 +38,27 @@ pub(crate) fn put_made<T: Drop>(
             put(place, value);
             Ok(())
         }
+        Err(e) => Err(e),
+    }
+}
+
+/// Adds an item.
+pub(crate) fn add<T: Drop>(items: &mut Vec<T>, item: T) -> Result<(), AllocError>
+    ensures { OnOk result (items.new.items ≡ items.old.items ++ item ∷ []) }
+{
+    items.push(item)?;
+    Ok(())
+}
+
+/// Adds an item, if it is made.
+pub(crate) fn add_made<T: Drop>(
+    items: &mut Vec<T>,
+    made: Result<T, AllocError>,
+) -> Result<(), AllocError>
+    ensures { OnOk result (IsOkAnd made (λ item. items.new.items ≡ items.old.items ++ item ∷ [])) }
+{
+    match made {
+        Ok(item) => add(items, item),
         Err(e) => Err(e),
     }
 }

@@ -10,3 +10,7 @@ pub mod Adding
 pub mod Linking
 -- how many parts there are
 pub mod Counting
+-- types that are shared
+mod Shared
+-- one module more
+mod Modules

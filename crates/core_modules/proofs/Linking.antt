@@ -1,10 +1,9 @@
 -- The signs of an expression with which things are done: those before it, its own, and those after it.
-use Rattle.std.proofs.Common.{◌≡◌, List, [], ◌∷◌, ◌++◌, map, flat_map, reverse, refl, sym, ap, ◌∙◌, append_assoc}
-use Rattle.std.proofs.Common.{append-nil}
-use Rattle.std.proofs.lemmas.Grind.{flat_map-append, reverse_onto}
-use Rattle.elm_canon.specs.declared.tree.Link.{Link}
+use Rattle.std.proofs.Common.{◌≡◌, List, [], ◌∷◌, ◌++◌, flat_map, sym, ap, ◌∙◌, append_assoc}
+use Rattle.std.proofs.Common.{append-nil, ℕ, ◌+◌, ◌<◌, length, drop, get_or}
+use Rattle.std.proofs.lemmas.List.{at_drop_more}
 use Rattle.elm_canon.specs.Tree.{Expr, exprs_of}
-use Rattle.elm_canon.specs.View.{LinkView, done, linked, link_view}
+use Rattle.elm_canon.specs.View.{LinkView, done, linked}
 use Rattle.elm_canon.specs.View as link
 use Rattle.core_modules.specs.declared.port_faults_sign.Sign.TheVariants as sign
 use Rattle.core_modules.specs.declared.port_faults_sign.Form.TheVariants as form
@@ -40,12 +39,8 @@ linked_signs e (l ∷ ls) =
     ∙ ap (λ us. us ++ after l ++ last) (sym (append_assoc first (before l) own))
     ∙ append_assoc (first ++ before l ++ own) (after l) last
 
--- from the last to the first
-pub turned : (ls : List Link) →
-    flat_map (λ l. before (link_view l)) (reverse ls) ≡ before_all (map link_view ls)
-turned [] = refl
-turned (l ∷ ls) =
-    ap (flat_map (λ k. before (link_view k))) (reverse_onto ls l [])
-    ∙ flat_map-append (λ k. before (link_view k)) (reverse ls) (l ∷ [])
-    ∙ ap (λ us. us ++ (before (link_view l) ++ [])) (turned ls)
-    ∙ ap (λ us. before_all (map link_view ls) ++ us) (append-nil (before (link_view l)))
+-- an item, and what follows it
+pub drop_at : {X : Type 0} (xs : List X) (i : ℕ) (x : X) → i < length xs → x ≡ get_or xs i x →
+    drop i xs ≡ x ∷ drop (i + 1) xs
+drop_at xs i x h is =
+    at_drop_more (λ zs. zs) xs i x h ∙ ap (λ z. z ∷ drop (i + 1) xs) (sym is)

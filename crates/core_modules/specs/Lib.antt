@@ -1,5 +1,9 @@
 pub mod Given
+-- types and imports, part by part
+pub mod Opaque
 pub mod Library
+-- the same in three parts
+pub mod Thirds
 -- declarations, sign by sign
 pub mod Signs
 -- what the core library must declare
@@ -10,6 +14,8 @@ pub mod Facts
 pub mod Rows
 -- commands and subscriptions of ports, in unions and constructors
 pub mod Makers
+-- signs that have no name
+pub mod Ported
 -- signs that are the same
 pub mod Same
 -- declarations, sign by sign

@@ -5,7 +5,7 @@ ghost use Rattle.elm_canon.specs.View.{module_view};
 ghost use Rattle.core_modules.specs.Facts as spec;
 ghost use Rattle.core_modules.specs.Rows.{union_row_faults, union_row_view, bare_row_faults, bare_row_view};
 
-use crate::functions::push_all_declared;
+use crate::functions::push_module_declared;
 use crate::rows::{BARE, BareRow, UNIONS, UnionRow};
 use crate::unions::{has_named, has_spelled};
 use canon_env::finding::Finding;
@@ -111,5 +111,5 @@ pub fn push_core_faults(
 {
     push_unions(alloc, module, &UNIONS, findings)?;
     push_types(alloc, module, &BARE, findings)?;
-    push_all_declared(alloc, &module.declarations, findings)
+    push_module_declared(alloc, module, findings)
 }

@@ -3,7 +3,7 @@
 ghost use Rattle.std.specs.Prelude.{◌≡◌, ◌++◌, map, flat_map, OnOk};
 ghost use Rattle.elm_canon.specs.Names.{same_ref};
 ghost use Rattle.elm_canon.specs.declared.reference.Ref.TheVariants.{Top};
-ghost use Rattle.elm_canon.specs.View.{declaration_view, group_view, title_view};
+ghost use Rattle.elm_canon.specs.View.{declaration_view, group_view, module_view, title_view};
 ghost use Rattle.core_modules.specs.Facts as spec;
 ghost use Rattle.core_modules.specs.Rows.{annotated, coded_faults, row_view};
 ghost use Rattle.core_modules.specs.Signs.{signs_view};
@@ -15,7 +15,7 @@ use crate::spelling::is_spelled;
 use canon_env::finding::Finding;
 use elm_base::fault::Code;
 use elm_canon::reference::Ref;
-use elm_canon::tree::{Annotation, Declaration, Function, Group, Title};
+use elm_canon::tree::{Annotation, Declaration, Function, Group, Module, Title};
 use elm_type::ascii::is_text;
 use std::alloc::{AllocError, Global};
 
@@ -102,13 +102,25 @@ fn push_functions(
     Ok(())
 }
 
+/// The same of all functions of a group.
+fn push_all(
+    alloc: Global,
+    functions: &Vec<Function>,
+    findings: &mut Vec<Finding>,
+) -> Result<(), AllocError>
+    ensures { OnOk result (findings.new.items ≡ findings.old.items
+        ++ flat_map spec.title_faults (map (λ f. title_view f.title) functions.now.items)) }
+{
+    push_functions(alloc, functions, findings)
+}
+
 /// The same of the titles of a group.
 fn push_group(alloc: Global, group: &Group, findings: &mut Vec<Finding>) -> Result<(), AllocError>
     ensures { OnOk result (findings.new.items
         ≡ findings.old.items ++ flat_map spec.title_faults (spec.group_titles (group_view group.now))) }
 {
     match group {
-        Group::Together(functions) => push_functions(alloc, functions, findings),
+        Group::Together(functions) => push_all(alloc, functions, findings),
         Group::Constant(title, _) => push_title(alloc, title, findings),
         Group::Destructure(_, _) => Ok(()),
     }
@@ -130,7 +142,7 @@ fn push_declared(
 }
 
 /// The same of declarations.
-pub(crate) fn push_all_declared(
+fn push_all_declared(
     alloc: Global,
     declarations: &[Declaration],
     findings: &mut Vec<Finding>,
@@ -142,4 +154,16 @@ pub(crate) fn push_all_declared(
         push_declared(alloc, declaration, findings)?;
     }
     Ok(())
+}
+
+/// The same of a module.
+pub(crate) fn push_module_declared(
+    alloc: Global,
+    module: &Module,
+    findings: &mut Vec<Finding>,
+) -> Result<(), AllocError>
+    ensures { OnOk result (findings.new.items ≡ findings.old.items
+        ++ flat_map spec.declared_faults (module_view module.now).declarations) }
+{
+    push_all_declared(alloc, &module.declarations, findings)
 }

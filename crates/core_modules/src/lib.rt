@@ -16,6 +16,7 @@ pub mod library;
 mod list_text;
 mod makers;
 mod maybe_text;
+mod outcomes;
 mod patterns;
 mod platform_cmd_text;
 mod platform_sub_text;

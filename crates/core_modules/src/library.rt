@@ -2,6 +2,7 @@
 
 ghost use Rattle.std.specs.Prelude.{◌≡◌, ◌++◌, ◌∷◌, [], map, IfOk, OnOk};
 ghost use Rattle.core_modules.specs.Library.{core_library, module_view};
+ghost use Rattle.core_modules.specs.Thirds.{first_modules, second_modules, third_modules};
 
 use crate::basics_text::BASICS;
 use crate::bitwise_text::BITWISE;
@@ -58,25 +59,49 @@ fn push_halves(
     Ok(())
 }
 
+/// Adds the first modules.
+fn push_first(alloc: Global, modules: &mut Vec<CoreModule>) -> Result<(), AllocError>
+    ensures { OnOk result (map module_view modules.new.items ≡ map module_view modules.old.items ++ first_modules) }
+{
+    push(alloc, modules, "Basics", BASICS)?;
+    push(alloc, modules, "Bitwise", BITWISE)?;
+    push(alloc, modules, "Char", CHAR)?;
+    push(alloc, modules, "Debug", DEBUG)?;
+    push(alloc, modules, "Maybe", MAYBE)?;
+    Ok(())
+}
+
+/// Adds the modules after these.
+fn push_second(alloc: Global, modules: &mut Vec<CoreModule>) -> Result<(), AllocError>
+    ensures { OnOk result (map module_view modules.new.items ≡ map module_view modules.old.items ++ second_modules) }
+{
+    push_halves(alloc, modules, "Dict", DICT_1, DICT_2)?;
+    push_halves(alloc, modules, "List", LIST_1, LIST_2)?;
+    push(alloc, modules, "Platform.Cmd", PLATFORM_CMD)?;
+    push(alloc, modules, "Platform.Sub", PLATFORM_SUB)?;
+    push(alloc, modules, "Platform", PLATFORM)?;
+    Ok(())
+}
+
+/// Adds the last modules.
+fn push_third(alloc: Global, modules: &mut Vec<CoreModule>) -> Result<(), AllocError>
+    ensures { OnOk result (map module_view modules.new.items ≡ map module_view modules.old.items ++ third_modules) }
+{
+    push(alloc, modules, "Result", RESULT)?;
+    push(alloc, modules, "Set", SET)?;
+    push_halves(alloc, modules, "String", STRING_1, STRING_2)?;
+    push(alloc, modules, "Tuple", TUPLE)?;
+    Ok(())
+}
+
 /// The modules of the core library, with their texts, in the order in which a build takes them: each stands after those
 /// that it imports. The error means that memory ran out.
 pub fn core_library(alloc: Global) -> Result<Vec<CoreModule>, AllocError>
     ensures { IfOk result (λ v. map module_view v.items ≡ core_library) }
 {
     let mut modules = Vec::with_capacity(alloc, 14)?;
-    push(alloc, &mut modules, "Basics", BASICS)?;
-    push(alloc, &mut modules, "Bitwise", BITWISE)?;
-    push(alloc, &mut modules, "Char", CHAR)?;
-    push(alloc, &mut modules, "Debug", DEBUG)?;
-    push(alloc, &mut modules, "Maybe", MAYBE)?;
-    push_halves(alloc, &mut modules, "Dict", DICT_1, DICT_2)?;
-    push_halves(alloc, &mut modules, "List", LIST_1, LIST_2)?;
-    push(alloc, &mut modules, "Platform.Cmd", PLATFORM_CMD)?;
-    push(alloc, &mut modules, "Platform.Sub", PLATFORM_SUB)?;
-    push(alloc, &mut modules, "Platform", PLATFORM)?;
-    push(alloc, &mut modules, "Result", RESULT)?;
-    push(alloc, &mut modules, "Set", SET)?;
-    push_halves(alloc, &mut modules, "String", STRING_1, STRING_2)?;
-    push(alloc, &mut modules, "Tuple", TUPLE)?;
+    push_first(alloc, &mut modules)?;
+    push_second(alloc, &mut modules)?;
+    push_third(alloc, &mut modules)?;
     Ok(modules)
 }

@@ -3,6 +3,8 @@
 ghost use Rattle.std.specs.Prelude.{◌≡◌, ◌++◌, ◌∷◌, [], OnOk};
 ghost use Rattle.core_modules.specs.Makers as spec;
 ghost use Rattle.core_modules.specs.PortFaultsSigns.{ends};
+ghost use Rattle.core_modules.specs.Ported.{sign_of};
+ghost use Rattle.core_modules.specs.declared.port_faults_sign.Sign.TheVariants as sign;
 
 use crate::port_faults_sign::{Form, Port, Sign};
 use elm_base::names::Name;
@@ -36,17 +38,48 @@ pub(crate) fn push(sign: Sign, signs: &mut Vec<Sign>) -> Result<(), AllocError>
     Ok(())
 }
 
+/// Adds a sign that is of no port.
+pub(crate) fn push_form(form: Form, signs: &mut Vec<Sign>) -> Result<(), AllocError>
+    ensures { OnOk result (signs.new.items ≡ signs.old.items ++ sign.Form form ∷ []) }
+{
+    push(Sign::Form(form), signs)
+}
+
+/// Adds a sign of ports.
+fn push_port(port: Port, signs: &mut Vec<Sign>) -> Result<(), AllocError>
+    ensures { OnOk result (signs.new.items ≡ signs.old.items ++ sign.Port port ∷ []) }
+{
+    push(Sign::Port(port), signs)
+}
+
+/// Adds a sign of ports, or else one of another constructor.
+fn push_any(port: Option<Port>, signs: &mut Vec<Sign>) -> Result<(), AllocError>
+    ensures { OnOk result (signs.new.items ≡ signs.old.items ++ sign_of port ∷ []) }
+{
+    match port {
+        Some(port) => push_port(port, signs),
+        None => push_form(Form::Other, signs),
+    }
+}
+
+/// Adds the sign of a local name.
+fn push_local(name: &Name, signs: &mut Vec<Sign>) -> Result<(), AllocError>
+    ensures { OnOk result (signs.new.items ≡ signs.old.items ++ sign.Local name.now ∷ []) }
+{
+    push(Sign::Local(name.clone()?), signs)
+}
+
 /// Adds the sign of a name.
 pub(crate) fn push_name(name: &Ref, signs: &mut Vec<Sign>) -> Result<(), AllocError>
     ensures { OnOk result (signs.new.items ≡ signs.old.items ++ spec.name_sign name.now ∷ []) }
 {
     match name {
-        Ref::Local(name) => push(Sign::Local(name.clone()?), signs),
+        Ref::Local(name) => push_local(name, signs),
         Ref::Top(home, name) => {
             if is_port_home(home) && !is_small(name) {
-                push(Sign::Port(Port::Wrong), signs)
+                push_port(Port::Wrong, signs)
             } else {
-                push(Sign::Form(Form::Other), signs)
+                push_form(Form::Other, signs)
             }
         }
     }
@@ -115,7 +148,7 @@ pub(crate) fn push_ends(union: &Union, signs: &mut Vec<Sign>) -> Result<(), Allo
     ensures { OnOk result (signs.new.items ≡ signs.old.items ++ ends union.now) }
 {
     if is_command(union) || is_subscription(union) {
-        push(Sign::Form(Form::End), signs)
+        push_form(Form::End, signs)
     } else {
         Ok(())
     }
@@ -125,34 +158,35 @@ pub(crate) fn push_ends(union: &Union, signs: &mut Vec<Sign>) -> Result<(), Allo
 /// it is `Batch`.
 fn maker_sign(
     name: &[u8],
-    first: Sign,
-    second: Sign,
+    first: Port,
+    second: Option<Port>,
     union: &Union,
     constructor: &Alternative,
-) -> Sign
-    ensures { result ≡ spec.maker_sign name.now first second union.now constructor.now }
+) -> Option<Port>
+    ensures { sign_of result
+        ≡ spec.maker_sign name.now (sign.Port first) (sign_of second) union.now constructor.now }
 {
     if !has_makers(name, union) {
-        return Sign::Port(Port::Wrong);
+        return Some(Port::Wrong);
     }
     if is_maker(name, 0, 2, constructor) {
-        return first;
+        return Some(first);
     }
     if is_maker(b"Batch", 1, 1, constructor) {
         return second;
     }
-    Sign::Port(Port::Wrong)
+    Some(Port::Wrong)
 }
 
-/// The sign of a constructor that a pattern takes apart.
-fn taken_sign(union: &Union, constructor: &Alternative) -> Sign
-    ensures { result ≡ spec.taken_sign union.now constructor.now }
+/// The sign of a constructor that a pattern takes apart, if it is one of ports.
+fn taken_sign(union: &Union, constructor: &Alternative) -> Option<Port>
+    ensures { sign_of result ≡ spec.taken_sign union.now constructor.now }
 {
     if is_command(union) {
         return maker_sign(
             b"Send",
-            Sign::Port(Port::TakesSend),
-            Sign::Port(Port::TakesCommands),
+            Port::TakesSend,
+            Some(Port::TakesCommands),
             union,
             constructor,
         );
@@ -160,13 +194,13 @@ fn taken_sign(union: &Union, constructor: &Alternative) -> Sign
     if is_subscription(union) {
         return maker_sign(
             b"Listen",
-            Sign::Port(Port::TakesListen),
-            Sign::Port(Port::TakesSubscriptions),
+            Port::TakesListen,
+            Some(Port::TakesSubscriptions),
             union,
             constructor,
         );
     }
-    Sign::Form(Form::Other)
+    None
 }
 
 /// Adds the sign of a constructor that a pattern takes apart.
@@ -177,30 +211,29 @@ pub(crate) fn push_taken(
 ) -> Result<(), AllocError>
     ensures { OnOk result (signs.new.items ≡ signs.old.items ++ spec.taken_sign union.now constructor.now ∷ []) }
 {
-    push(taken_sign(union, constructor), signs)
+    push_any(taken_sign(union, constructor), signs)
 }
 
-/// The sign of a constructor that is built.
-pub(crate) fn built_sign(union: &Union, constructor: &Alternative) -> Sign
-    ensures { result ≡ spec.built_sign union.now constructor.now }
+/// The sign of a constructor that is built, if it is one of ports.
+fn built_sign(union: &Union, constructor: &Alternative) -> Option<Port>
+    ensures { sign_of result ≡ spec.built_sign union.now constructor.now }
 {
     if is_command(union) {
-        return maker_sign(
-            b"Send",
-            Sign::Port(Port::Sends),
-            Sign::Form(Form::Other),
-            union,
-            constructor,
-        );
+        return maker_sign(b"Send", Port::Sends, None, union, constructor);
     }
     if is_subscription(union) {
-        return maker_sign(
-            b"Listen",
-            Sign::Port(Port::Listens),
-            Sign::Form(Form::Other),
-            union,
-            constructor,
-        );
+        return maker_sign(b"Listen", Port::Listens, None, union, constructor);
     }
-    Sign::Form(Form::Other)
+    None
+}
+
+/// Adds the sign of a constructor that is built.
+pub(crate) fn push_built(
+    union: &Union,
+    constructor: &Alternative,
+    signs: &mut Vec<Sign>,
+) -> Result<(), AllocError>
+    ensures { OnOk result (signs.new.items ≡ signs.old.items ++ spec.built_sign union.now constructor.now ∷ []) }
+{
+    push_any(built_sign(union, constructor), signs)
 }

@@ -4,7 +4,7 @@ ghost use Rattle.std.specs.Prelude.{◌≡◌, ◌++◌, ◌∷◌, [], map, fla
 ghost use Rattle.elm_canon.specs.View.{pattern_view, patterns_view};
 ghost use Rattle.core_modules.specs.PortFaultsSigns.{pattern_signs, patterns_signs, named, other};
 
-use crate::makers::{push, push_ends, push_taken};
+use crate::makers::{push, push_ends, push_form, push_taken};
 use crate::port_faults_sign::{Form, Sign};
 use elm_base::names::Name;
 use elm_canon::tree::Pattern;
@@ -23,55 +23,67 @@ pub(crate) fn push_pattern(pattern: &Pattern, signs: &mut Vec<Sign>) -> Result<(
     ensures { OnOk result (signs.new.items ≡ signs.old.items ++ pattern_signs (pattern_view pattern.now)) }
 {
     match pattern {
-        Pattern::Anything => push(Sign::Form(Form::Other), signs),
+        Pattern::Anything => push_form(Form::Other, signs),
         Pattern::Named(name) => push_named(name, signs),
         Pattern::As(inner, _) => {
-            push(Sign::Form(Form::Other), signs)?;
-            push_pattern(inner, signs)
+            push_form(Form::Other, signs)?;
+            push_boxed(inner, signs)
         }
-        Pattern::Exactly(_) => push(Sign::Form(Form::Other), signs),
+        Pattern::Exactly(_) => push_form(Form::Other, signs),
         Pattern::Construct(union, constructor, fields) => {
             push_taken(union, constructor, signs)?;
             push_patterns(fields, signs)?;
             push_ends(union, signs)
         }
         Pattern::Tuple(parts) => {
-            push(Sign::Form(Form::Other), signs)?;
+            push_form(Form::Other, signs)?;
             push_patterns(parts, signs)
         }
         Pattern::List(items) => {
             push_items(items, signs)?;
-            push(Sign::Form(Form::Other), signs)
+            push_form(Form::Other, signs)
         }
         Pattern::Items(items, rest) => {
             push_items(items, signs)?;
-            push_pattern(rest, signs)
+            push_boxed(rest, signs)
         }
-        Pattern::Fields(_) => push(Sign::Form(Form::Other), signs),
-        Pattern::Located(_, inner) => push_pattern(inner, signs),
+        Pattern::Fields(_) => push_form(Form::Other, signs),
+        Pattern::Located(_, inner) => push_boxed(inner, signs),
     }
+}
+
+/// Adds the signs of a pattern in a box.
+#[cycle(patterns)]
+fn push_boxed(pattern: &Box<Pattern>, signs: &mut Vec<Sign>) -> Result<(), AllocError>
+    ensures { OnOk result (signs.new.items ≡ signs.old.items ++ pattern_signs (pattern_view pattern.now.value)) }
+{
+    push_pattern(pattern, signs)
 }
 
 /// Adds the signs of patterns.
 #[cycle(patterns)]
-pub(crate) fn push_patterns(patterns: &[Pattern], signs: &mut Vec<Sign>) -> Result<(), AllocError>
-    ensures { OnOk result (signs.new.items ≡ signs.old.items ++ patterns_signs (patterns_view patterns.now)) }
+pub(crate) fn push_patterns(
+    patterns: &Vec<Pattern>,
+    signs: &mut Vec<Sign>,
+) -> Result<(), AllocError>
+    ensures { OnOk result (signs.new.items
+        ≡ signs.old.items ++ patterns_signs (patterns_view patterns.now.items)) }
 {
-    for pattern in patterns {
-        push_pattern(pattern, signs)?;
+    for place in 0..patterns.len() {
+        push_pattern(&patterns[place], signs)?;
     }
     Ok(())
 }
 
 /// Adds the signs of the items of a list, each of which begins what is left of it.
 #[cycle(patterns)]
-fn push_items(patterns: &[Pattern], signs: &mut Vec<Sign>) -> Result<(), AllocError>
+fn push_items(patterns: &Vec<Pattern>, signs: &mut Vec<Sign>) -> Result<(), AllocError>
     ensures { OnOk result (signs.new.items
-        ≡ signs.old.items ++ flat_map (λ p. other ∷ pattern_signs p) (map pattern_view patterns.now)) }
+        ≡ signs.old.items ++ flat_map (λ p. other ∷ pattern_signs p) (map pattern_view patterns.now.items)) }
 {
-    for pattern in patterns {
-        push(Sign::Form(Form::Other), signs)?;
-        push_pattern(pattern, signs)?;
+    for place in 0..patterns.len() {
+        push_form(Form::Other, signs)?;
+        push_pattern(&patterns[place], signs)?;
     }
     Ok(())
 }

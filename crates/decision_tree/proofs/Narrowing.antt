@@ -4,14 +4,11 @@ use Rattle.std.proofs.Common.{ap, ◌∙◌}
 use Rattle.std.proofs.Common.{arith, ◌+◌, append-nil, Option, Some, None, option_map}
 use Rattle.elm_canon.specs.Tree.{Pattern}
 use Rattle.js_emit.specs.Matrix.{Ask, Nothing, ask, ask_at, in_place, after_one, narrowed, keep}
+use Rattle.decision_tree.specs.Placed.{placed}
 use Rattle.decision_tree.specs.Views.{part_view, parts_view, row_of}
 use Rattle.decision_tree.specs.declared.part.Part.{Part}
 use Rattle.decision_tree.proofs.Lists.{map_at}
 use Rattle.std.proofs.lemmas.List.{length-map, take-map, drop-map}
-
--- with what is left of the column in its place
-abbrev pub placed : ℕ → List Pattern → List Pattern → List Pattern
-placed column ps qs = take column ps ++ (qs ++ drop (suc column) ps)
 
 after_placed : (p : Pattern) (column : ℕ) (ps : List Pattern) (left : Option (List Pattern))
     → after_one p (option_map (placed column ps) left) ≡ option_map (placed (suc column) (p ∷ ps)) left

@@ -3,3 +3,4 @@ pub mod Marks
 pub mod Run
 pub mod Before
 pub mod Opened
+pub mod Placed

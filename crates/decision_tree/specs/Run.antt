@@ -1,11 +1,13 @@
 -- The column that is tested, and what is still to be done for a tree.
 use Rattle.std.specs.Prelude.{ℕ, zero, suc, ◌+◌, ◌<◌, ⊤, pos, List, [], ◌∷◌, drop, get_or, length, Option}
-use Rattle.js_tree.specs.Tree.{Js, JInt, JConditional}
+use Rattle.elm_canon.specs.Tree as plain
+use Rattle.js_tree.specs.Tree.{Js, JInt, JVar, JConditional, Made}
 use Rattle.js_tree.specs.Postorder.{Tree, Expression, top, below, expression}
 use Rattle.js_emit.specs.Matrix as matrix
 use Rattle.js_emit.specs.Matrix.{arity_of, left_by, left_over, narrow, tests_in, is_whole, rows_size}
 use Rattle.js_emit.specs.Choice.{Column, one_further, split_path, tree, chain}
-use Rattle.decision_tree.specs.Views.{test_view, tests_view, rows_view, left_view, arity_left, path_view, paths_view}
+use Rattle.decision_tree.specs.Views.{test_view, tests_view, rows_of, rows_view, left_view, arity_left, path_view}
+use Rattle.decision_tree.specs.Views.{paths_view}
 use Rattle.decision_tree.specs.declared.split.Matrix.{Matrix}
 use Rattle.decision_tree.specs.declared.split.Chain.{Chain}
 use Rattle.decision_tree.specs.declared.split.Found.{Found}
@@ -38,6 +40,10 @@ rows_js paths rows = tree (rows_size rows) paths rows
 
 abbrev pub matrix_js : ℕ → Matrix → Js
 matrix_js subject m = rows_js (paths_view subject m.paths.items) (rows_view m.rows.items)
+
+-- of a row for each pattern
+abbrev pub whole_js : ℕ → List plain.Pattern → Js
+whole_js subject ps = rows_js (JVar (Made subject) ∷ []) (rows_of 0 ps)
 
 -- by the column that is tested
 abbrev pub split_tree : List Js → List matrix.Row → Column → Js

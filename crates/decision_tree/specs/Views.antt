@@ -1,5 +1,5 @@
 -- What the parts, tests, rows and paths of the program are.
-use Rattle.std.specs.Prelude.{ℕ, List, [], ◌∷◌, map, replicate, Option}
+use Rattle.std.specs.Prelude.{ℕ, suc, List, [], ◌∷◌, drop, get_or, map, replicate, Option}
 use Rattle.elm_canon.specs.Unions.{TupleUnion, ListUnion, tuple_alternative, nil_alternative, cons_alternative}
 use Rattle.elm_canon.specs.Tree as plain
 use Rattle.elm_canon.specs.View.{pattern_view, items_before, nil_pattern}
@@ -24,16 +24,17 @@ use Rattle.decision_tree.specs.declared.path.Path.{Path}
 
 abbrev pub part_view : Part → plain.Pattern
 part_view part.Anything = plain.Anything
-part_view (part.Whole p) = pattern_view p.now
-part_view (part.List ps) = items_before nil_pattern (map pattern_view ps.now)
-part_view (part.Items ps rest) = items_before (pattern_view rest.now) (map pattern_view ps.now)
+part_view (part.Whole ps n) = get_or (map (λ p. pattern_view p.now) ps.now.items) n plain.Anything
+part_view (part.Inside ps n) = get_or (map pattern_view ps.now.items) n plain.Anything
+part_view (part.List ps n) = items_before nil_pattern (map pattern_view (drop n ps.now.items))
+part_view (part.Items ps n rest) = items_before (pattern_view rest.now.value) (map pattern_view (drop n ps.now.items))
 
 abbrev pub parts_view : List Part → List plain.Pattern
 parts_view ps = map part_view ps
 
 abbrev pub inner_view : Inner → List plain.Pattern
 inner_view inner.Nothing = []
-inner_view (inner.Each ps) = map pattern_view ps.now
+inner_view (inner.Each ps) = map pattern_view ps.now.items
 inner_view (inner.Two p q) = part_view p ∷ part_view q ∷ []
 inner_view (inner.Open n) = replicate n plain.Anything
 
@@ -57,6 +58,11 @@ ask_view (ask.First t ps) = matrix.First (test_view t) (inner_view ps)
 
 abbrev pub row_of : ℕ → List plain.Pattern → matrix.Row
 row_of branch ps = record { patterns = ps; branch = branch }
+
+-- one for each pattern, from that number on
+abbrev pub rows_of : ℕ → List plain.Pattern → List matrix.Row
+rows_of n [] = []
+rows_of n (p ∷ ps) = row_of n (p ∷ []) ∷ rows_of (suc n) ps
 
 abbrev pub row_view : Row → matrix.Row
 row_view r = row_of r.branch (parts_view r.parts.items)

@@ -15,3 +15,4 @@ mod path;
 mod row;
 mod split;
 mod test;
+mod vectors;

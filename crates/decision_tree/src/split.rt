@@ -11,21 +11,22 @@ use crate::part::{Ask, Part, ask_part};
 use crate::path::{Path, copied, split_paths};
 use crate::row::{Row, Wanted, ask_row, narrow};
 use crate::test::{Test, arity, has_test, is_alike, is_whole};
+use crate::vectors::add;
 use std::alloc::{AllocError, Global};
 
 /// Rows that are still possible, in order.
 #[derive(Drop)]
-pub struct Matrix<'a> {
+pub struct Matrix<'b, 'a> {
     /// The path of each column.
     pub paths: Vec<Path>,
-    pub rows: Vec<Row<'a>>,
+    pub rows: Vec<Row<'b, 'a>>,
 }
 
 /// Rows of which a column is tested.
 #[derive(Drop)]
-pub struct Chain<'a> {
+pub struct Chain<'b, 'a> {
     pub paths: Vec<Path>,
-    pub rows: Vec<Row<'a>>,
+    pub rows: Vec<Row<'b, 'a>>,
     pub column: usize,
     pub path: Path,
     /// Whether no other value is possible than those of the tests.
@@ -51,11 +52,11 @@ pub enum Look<'a> {
 }
 
 /// The tests of a column that are alike the first, each once.
-fn tests_in<'a>(
+fn tests_in<'b, 'a>(
     alloc: Global,
     first: Test<'a>,
     column: usize,
-    rows: &[Row<'a>],
+    rows: &[Row<'b, 'a>],
 ) -> Result<Vec<Test<'a>>, AllocError>
     ensures { IfOk result (λ out. tests_view out.items
         ≡ matrix.tests_in (test_view first.entry) column [] (rows_view rows.now)) }
@@ -64,7 +65,7 @@ fn tests_in<'a>(
     for row in rows {
         if let Ask::First(test, _) = ask_row(row, column) {
             if is_alike(first, test) && !has_test(test, &tests) {
-                tests.push(test)?;
+                add(&mut tests, test)?;
             }
         }
     }
@@ -72,7 +73,7 @@ fn tests_in<'a>(
 }
 
 /// The leftmost column for which the row asks for something.
-fn first_column<'a>(paths: &[Path], parts: &[Part<'a>]) -> Option<Found<'a>>
+fn first_column<'b, 'a>(paths: &[Path], parts: &[Part<'b, 'a>]) -> Option<Found<'a>>
     ensures found { (subject : ℕ) → option_map (found_view subject paths.now) result
         ≡ spec.first_column (paths_view subject paths.now) (parts_view parts.now) }
     ensures inside { IfSome result (λ f. f.number < length paths.now) }
@@ -90,7 +91,7 @@ fn first_column<'a>(paths: &[Path], parts: &[Part<'a>]) -> Option<Found<'a>>
 }
 
 /// What the rows ask for next.
-pub fn looked_at<'a>(matrix: &Matrix<'a>) -> Look<'a>
+pub fn looked_at<'b, 'a>(matrix: &Matrix<'b, 'a>) -> Look<'a>
     ensures look { (subject : ℕ) → matrix_js subject matrix.now ≡ look_js subject matrix.now result }
     ensures inside { CanSplit matrix.now result }
 {
@@ -104,11 +105,11 @@ pub fn looked_at<'a>(matrix: &Matrix<'a>) -> Look<'a>
 }
 
 /// The tests of the column.
-pub fn chain_of<'a>(
+pub fn chain_of<'b, 'a>(
     alloc: Global,
-    matrix: Matrix<'a>,
+    matrix: Matrix<'b, 'a>,
     found: Found<'a>,
-) -> Result<Chain<'a>, AllocError>
+) -> Result<Chain<'b, 'a>, AllocError>
     requires { found.number < length matrix.paths.items }
     ensures { IfOk result (λ c. (subject : ℕ) → chain_js subject c
         ≡ split_js subject matrix.entry (found_view subject matrix.entry.paths.items found.entry)) }
@@ -138,11 +139,11 @@ fn parts_left(wanted: Wanted<'_>) -> usize
 }
 
 /// The rows where the test holds, or where no test of the column does.
-pub fn narrowed<'a>(
+pub fn narrowed<'b, 'a>(
     alloc: Global,
-    chain: &Chain<'a>,
+    chain: &Chain<'b, 'a>,
     wanted: Wanted<'a>,
-) -> Result<Matrix<'a>, AllocError>
+) -> Result<Matrix<'b, 'a>, AllocError>
     ensures { IfOk result (λ m. (subject : ℕ) → matrix_js subject m ≡ narrowed_js subject chain.now wanted.entry) }
 {
     let mut paths = Vec::new(alloc);
@@ -159,7 +160,7 @@ pub fn narrowed<'a>(
 }
 
 /// Whether the next test is the last, and is not made, since no other value is possible.
-pub fn is_last(chain: &Chain<'_>) -> bool
+pub fn is_last(chain: &Chain<'_, '_>) -> bool
     requires { chain.now.next < length chain.now.tests.items }
     ensures last { result ≡ true
         → (chain.now.is_whole ≡ true) × (chain.now.next + 1 ≡ length chain.now.tests.items) }

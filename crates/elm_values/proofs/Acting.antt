@@ -1,15 +1,12 @@
 -- What an action does to the columns: what it takes off in turn (`took`) gives way to what is made of it (`acted`).
-use Rattle.std.proofs.Common.{◌≡◌, List, [], ◌∷◌, map, reverse, Option, option_map, refl, ap, ◌∙◌}
+use Rattle.std.proofs.Common.{◌≡◌, List, [], ◌∷◌, map, Option, option_map, refl, ap, ◌∙◌}
 use Rattle.elm_lexer.specs.Tokens.{Token}
 use Rattle.elm_tree.specs.Tree as plain
 use Rattle.elm_tree.specs.Words.{word_of}
-use Rattle.elm_tree.specs.View.{token_view, word_view, words_view, constructor_view}
+use Rattle.elm_tree.specs.View.{token_view, word_view, words_view}
 use Rattle.elm_tree.specs.declared.tree.Word.{Word}
-use Rattle.elm_tree.specs.declared.tree.Constructor.{Constructor}
-use Rattle.elm_grammar.specs.declared.action.Item.{Item}
 use Rattle.elm_grammar.specs.declared.action.Action.{Action}
-use Rattle.elm_grammar.specs.declared.action.Action.TheVariants.{More, Same}
-use Rattle.elm_grammar.specs.Values.{Kind, One, Many, Thing, thing_of, takes, gives, act, first_word}
+use Rattle.elm_grammar.specs.Values.{Kind, Thing, takes, gives, first_word}
 use Rattle.elm_grammar.specs.Meaning.{Things, none, ◌⸴◌, made}
 use Rattle.elm_values.specs.Stack.{Columns, first, push, pop, top, tops, below, apply}
 
@@ -51,32 +48,3 @@ pub alias_seen : (tokens : List Token) (xs : List Word) →
     option_map (word_view tokens) (first xs) ≡ first_word (map (token_view tokens) xs)
 alias_seen tokens [] = refl
 alias_seen tokens (x ∷ xs) = refl
-
-pub union_seen : (tokens : List Token) (name : Word) (list parameters : List Word) (c : Constructor)
-    (others all : List Constructor) (constructors : List Constructor) → parameters ≡ reverse list →
-    constructors ≡ reverse all → reverse all ≡ c ∷ reverse others →
-    plain.Union (word_view tokens name) (words_view tokens parameters) (map (constructor_view tokens) constructors)
-    ≡ plain.Union (word_view tokens name) (map word_of (map (token_view tokens) (reverse list)))
-    (constructor_view tokens c ∷ map (constructor_view tokens) (reverse others))
-union_seen tokens name list parameters c others all constructors e f g =
-    ap (λ z. plain.Union (word_view tokens name) z (map (constructor_view tokens) constructors))
-    (ap (words_view tokens) e ∙ words_seen tokens (reverse list)) ∙
-    ap (λ z. plain.Union (word_view tokens name) (map word_of (map (token_view tokens) (reverse list))) z)
-    (ap (map (constructor_view tokens)) (f ∙ g))
-
--- ---- items and lists
-
--- the value itself
-pub passed : (i : Item) (tokens : List Token) (s : Columns) {t new : Columns} {v : thing_of i} → v ≡ top tokens (One i) s →
-    t ≡ pop (One i) s → new ≡ push (One i) v t → new ≡ apply tokens (Same i) s
-unfolding takes gives act
-passed i tokens s {t = t} e f g =
-    g ∙ (ap (λ z. push (One i) z t) e ∙ ap (push (One i) (top tokens (One i) s)) f)
-
--- the item in front of the list
-pub grown : (i : Item) (tokens : List Token) (s : Columns) {t u new : Columns} {v : thing_of i}
-    {vs ws : List (thing_of i)} → v ≡ top tokens (One i) s → t ≡ pop (One i) s → vs ≡ top tokens (Many i) t → u ≡ pop (Many i) t →
-    ws ≡ v ∷ vs → new ≡ push (Many i) ws u → new ≡ apply tokens (More i) s
-unfolding takes gives act
-grown i tokens s {t = t} {u = u} {v = v} {vs = vs} e f g h w p =
-    acted (More i) (took (One i) {v = v} e f (took (Many i) {v = vs} g h (done tokens u))) w p

@@ -26,9 +26,9 @@ use Rattle.elm_tree.specs.declared.tree.Definition.TheOpen.{Branch-F, Part-F}
 use Rattle.elm_tree.specs.declared.tree.Definition.TheViews.{roll-Branch, roll-Part}
 use Rattle.elm_tree.specs.declared.tree.Definition.TheFolds.{fold-roll-Branch, fold-roll-Part}
 use Rattle.elm_grammar.specs.Values.{applied, chained, arrows_of, accessed, conses_of, bracket_type, bracketed}
-use Rattle.elm_grammar.specs.Values.{bracket_pattern, with_name, fields_from, record_expr, Begun, begun, patterns_in}
+use Rattle.elm_grammar.specs.Values.{bracket_pattern, with_name, fields_from, record_expr, record_type, Begun, begun, patterns_in}
 use Rattle.elm_values.specs.declared.value.Begun as value
-use Rattle.elm_values.specs.Stack.{held, begun_view, first}
+use Rattle.elm_values.specs.Stack.{base_and_field, held, begun_view, first}
 
 -- ---- empty or not
 
@@ -110,16 +110,13 @@ pub with_name_some : (tokens : List Token) (p : Begun) (x : word.Word) (xs : Lis
 with_name_some tokens p x [] h = cc
 with_name_some tokens p x (y ∷ xs) h = cc
 
-pub fields_none : {A : Type 0} (tokens : List Token) (r : Word) (xs : List word.Word) (e : A) (fs : List (Word × A)) →
-    None ≡ first xs → (None, (r, e) ∷ fs) ≡ fields_from r (map (token_view tokens) xs) e fs
-fields_none tokens r [] e fs h = refl
-fields_none tokens r (y ∷ xs) e fs h = cc
-
-pub fields_named : {A : Type 0} (tokens : List Token) (r : Word) (x : word.Word) (xs : List word.Word) (e : A)
-    (fs : List (Word × A)) → Some x ≡ first xs →
-    (Some r, (word_view tokens x, e) ∷ fs) ≡ fields_from r (map (token_view tokens) xs) e fs
-fields_named tokens r x [] e fs h = cc
-fields_named tokens r x (y ∷ xs) e fs h = cc
+pub fields_seen_from : {A : Type 0} (tokens : List Token) (r : word.Word) (xs : List word.Word) (e : A) (fs : List (Word × A)) → (
+  option_map (word_view tokens) (base_and_field r (first xs)).0,
+  (word_view tokens (base_and_field r (first xs)).1, e) ∷ fs,
+)
+    ≡ fields_from (word_view tokens r) (map (token_view tokens) xs) e fs
+fields_seen_from tokens r [] e fs = refl
+fields_seen_from tokens r (x ∷ xs) e fs = refl
 
 -- ---- views of what is made
 
@@ -137,6 +134,11 @@ shapes_seen tokens (b ∷ bs) = ap (λ z. pattern_view tokens b.pattern ∷ z) (
 pub patterns_seen : (tokens : List Token) (bs : List value.Begun) →
     patterns_view tokens (map (λ (b : value.Begun). b.pattern) bs) ≡ patterns_in (map (begun_view tokens) bs)
 patterns_seen tokens bs = ap patterns_of (shapes_seen tokens bs)
+
+pub record_type_seen : (tokens : List Token) (base : Option word.Word) (fs : List (Word × TypeTree)) →
+    seen.record_type tokens base fs ≡ record_type (option_map (word_view tokens) base, fs)
+record_type_seen tokens None fs = refl
+record_type_seen tokens (Some r) fs = refl
 
 pub record_seen : (tokens : List Token) (x : word.Word) (base : Option word.Word) (fs : List (Word × Expr)) →
     seen.record_expr tokens x base fs ≡ record_expr (place_view tokens x) (option_map (word_view tokens) base, fs)

@@ -1,11 +1,13 @@
 -- The values on the stacks while a tree is built, and what the steps of a derivation make of them.
-use Rattle.std.specs.Prelude.{◌≡◌, ℕ, List, [], ◌∷◌, map, reverse, Bool, false, Option, Some, None, option_map}
+use Rattle.std.specs.Prelude.{◌≡◌, List, [], ◌∷◌, map, reverse, false, Option, Some, None, option_map}
+use Rattle.std.specs.declared.vec.Vec.{Vec}
+use Rattle.std.specs.declared.alloc.Global.{Global}
 use Rattle.elm_lexer.specs.Tokens.{Token}
 use Rattle.elm_tree.specs.Tree as tree
 use Rattle.elm_tree.specs.Words.{token_at, pos_of, word_of, expr_of, pattern_of, exposed_of}
-use Rattle.elm_tree.specs.View.{token_view, word_view, place_view, words_view, type_view, field_type_view, pattern_view}
+use Rattle.elm_tree.specs.View.{token_view, word_view, place_view, type_view, field_type_view, pattern_view}
 use Rattle.elm_tree.specs.View.{patterns_view, expr_view, definition_view, branch_view, part_view, constructor_view}
-use Rattle.elm_tree.specs.View.{declaration_view, exposed_view, exposing_view, import_view, header_view, head_view}
+use Rattle.elm_tree.specs.View.{declaration_view, exposed_view, exposing_view, import_view, header_view}
 use Rattle.elm_tree.specs.declared.tree.Module as program
 use Rattle.elm_grammar.specs.declared.action.Item.{Item}
 use Rattle.elm_grammar.specs.declared.action.Item.TheVariants as item
@@ -71,6 +73,15 @@ first (x ∷ xs) = Some x
 abbrev pub tail : {A : Type 0} → List A → List A
 tail [] = []
 tail (x ∷ xs) = xs
+
+-- the items of lists on a stack
+abbrev pub items_of : {A : Type 0} → List (Vec A Global) → List (List A)
+items_of lists = map (λ xs. reverse xs.items) (reverse lists)
+
+-- the base of a record and its first field, of a word and the name that may follow it
+abbrev pub base_and_field : {A : Type 0} → A → Option A → Option A × A
+base_and_field x None = (None, x)
+base_and_field r (Some x) = (Some r, x)
 
 -- ---- columns
 

@@ -2,16 +2,16 @@
 
 ghost use Rattle.std.specs.Prelude.{OnOk, IsTrue};
 ghost use Rattle.elm_values.specs.Stack.{Acts};
-ghost use Rattle.elm_values.specs.Used.{is_used};
+ghost use Rattle.elm_values.specs.Used.{is_used, of_expr, of_module, of_part};
 
 use crate::items::{comma, empty, ended, more, same, second, second_word};
-use crate::value::Stacks;
+use crate::store::Store;
 use crate::{definitions, exprs, modules, patterns, types};
 use elm_grammar::action::Action;
 use std::alloc::{AllocError, Global};
 
 /// What an action takes gives way to what it makes.
-pub fn act(alloc: Global, action: Action, stacks: &mut Stacks) -> Result<(), AllocError>
+pub fn act(alloc: Global, action: Action, stacks: &mut Store) -> Result<(), AllocError>
     requires { IsTrue (is_used action) }
     ensures { OnOk result (Acts action stacks.old stacks.new) }
 {
@@ -23,6 +23,16 @@ pub fn act(alloc: Global, action: Action, stacks: &mut Stacks) -> Result<(), All
         Action::More(item) => more(alloc, item, stacks),
         Action::Comma(item) => comma(alloc, item, stacks),
         Action::SecondAsList => second_word(alloc, stacks),
+        _ => act_in_module(alloc, action, stacks),
+    }
+}
+
+/// An action of the grammar of modules, or one of a smaller part.
+fn act_in_module(alloc: Global, action: Action, stacks: &mut Store) -> Result<(), AllocError>
+    requires { IsTrue (of_module action) }
+    ensures { OnOk result (Acts action stacks.old stacks.new) }
+{
+    match action {
         Action::EmptyModule => modules::empty_module(alloc, stacks),
         Action::WithHeader => modules::with_header(alloc, stacks),
         Action::WithImport => modules::with_import(alloc, stacks),
@@ -44,6 +54,16 @@ pub fn act(alloc: Global, action: Action, stacks: &mut Stacks) -> Result<(), All
         Action::AliasOf => modules::alias_of(alloc, stacks),
         Action::UnionOf => modules::union_of(alloc, stacks),
         Action::ConstructorOf => modules::constructor_of(alloc, stacks),
+        _ => act_in_part(alloc, action, stacks),
+    }
+}
+
+/// An action of the grammar of types, definitions and patterns, or one of expressions.
+fn act_in_part(alloc: Global, action: Action, stacks: &mut Store) -> Result<(), AllocError>
+    requires { IsTrue (of_part action) }
+    ensures { OnOk result (Acts action stacks.old stacks.new) }
+{
+    match action {
         Action::AnnotationRest => types::annotation(stacks),
         Action::ArrowsOf => types::arrow_type(alloc, stacks),
         Action::NamedType => types::named_type(alloc, stacks),
@@ -57,6 +77,24 @@ pub fn act(alloc: Global, action: Action, stacks: &mut Stacks) -> Result<(), All
         Action::FunctionRest => definitions::function(alloc, stacks),
         Action::DefinitionOf => definitions::named(stacks),
         Action::DestructureOf => definitions::destructure(stacks),
+        Action::PatternOf => patterns::pattern_of(alloc, stacks),
+        Action::ConstructOf => patterns::construct(alloc, stacks),
+        Action::ConstructAlone => patterns::construct_alone(alloc, stacks),
+        Action::WordPattern => patterns::word(stacks),
+        Action::NegativePattern => patterns::negative(stacks),
+        Action::BracketPattern => patterns::brackets(alloc, stacks),
+        Action::ListPatternOf => patterns::list(alloc, stacks),
+        Action::FieldsPatternOf => patterns::fields(alloc, stacks),
+        _ => act_in_expr(alloc, action, stacks),
+    }
+}
+
+/// An action of the grammar of expressions.
+fn act_in_expr(alloc: Global, action: Action, stacks: &mut Store) -> Result<(), AllocError>
+    requires { IsTrue (of_expr action) }
+    ensures { OnOk result (Acts action stacks.old stacks.new) }
+{
+    match action {
         Action::ChainOf => exprs::chain_of(alloc, stacks),
         Action::MoreOperators => exprs::more_operators(alloc, stacks),
         Action::OperandThen => exprs::operand_then(alloc, stacks),
@@ -82,13 +120,6 @@ pub fn act(alloc: Global, action: Action, stacks: &mut Stacks) -> Result<(), All
         Action::EmptyRecord => exprs::empty_record(alloc, stacks),
         Action::RecordOf => exprs::record_of(alloc, stacks),
         Action::MoreFields => exprs::more_fields(alloc, stacks),
-        Action::PatternOf => patterns::pattern_of(alloc, stacks),
-        Action::ConstructOf => patterns::construct(alloc, stacks),
-        Action::ConstructAlone => patterns::construct_alone(alloc, stacks),
-        Action::WordPattern => patterns::word(stacks),
-        Action::NegativePattern => patterns::negative(stacks),
-        Action::BracketPattern => patterns::brackets(alloc, stacks),
-        Action::ListPatternOf => patterns::list(alloc, stacks),
-        Action::FieldsPatternOf => patterns::fields(alloc, stacks),
+        _ => unreachable!(),
     }
 }

@@ -14,6 +14,7 @@ ghost use Rattle.elm_values.specs.Stack.{after_step, begun_view, built_module, c
 
 use crate::act::act;
 use crate::stack::{put_word, take_expr, take_module, take_pattern, take_type};
+use crate::store::Store;
 use crate::value::{Begun, Stacks};
 use elm_grammar::action::Action;
 use elm_tree::tree::{Expr, Module, TypeTree, Word};
@@ -21,37 +22,39 @@ use parse_machine::table::Step;
 use std::alloc::{AllocError, Global};
 
 /// No values.
-fn no_values(alloc: Global) -> Stacks
+fn no_values(alloc: Global) -> Store
     ensures { (tokens : List Token) → columns tokens result ≡ empty }
 {
-    Stacks {
-        words: Vec::new(alloc),
-        word_lists: Vec::new(alloc),
-        modules: Vec::new(alloc),
-        headers: Vec::new(alloc),
-        exposings: Vec::new(alloc),
-        exposed: Vec::new(alloc),
-        exposed_lists: Vec::new(alloc),
-        imports: Vec::new(alloc),
-        declarations: Vec::new(alloc),
-        rests: Vec::new(alloc),
-        constructors: Vec::new(alloc),
-        constructor_lists: Vec::new(alloc),
-        types: Vec::new(alloc),
-        type_lists: Vec::new(alloc),
-        field_type_lists: Vec::new(alloc),
-        patterns: Vec::new(alloc),
-        pattern_lists: Vec::new(alloc),
-        exprs: Vec::new(alloc),
-        expr_lists: Vec::new(alloc),
-        part_lists: Vec::new(alloc),
-        chains: Vec::new(alloc),
-        after_minus: Vec::new(alloc),
-        records: Vec::new(alloc),
-        branches: Vec::new(alloc),
-        branch_lists: Vec::new(alloc),
-        definitions: Vec::new(alloc),
-        definition_lists: Vec::new(alloc),
+    Store {
+        held: Stacks {
+            words: Vec::new(alloc),
+            word_lists: Vec::new(alloc),
+            modules: Vec::new(alloc),
+            headers: Vec::new(alloc),
+            exposings: Vec::new(alloc),
+            exposed: Vec::new(alloc),
+            exposed_lists: Vec::new(alloc),
+            imports: Vec::new(alloc),
+            declarations: Vec::new(alloc),
+            rests: Vec::new(alloc),
+            constructors: Vec::new(alloc),
+            constructor_lists: Vec::new(alloc),
+            types: Vec::new(alloc),
+            type_lists: Vec::new(alloc),
+            field_type_lists: Vec::new(alloc),
+            patterns: Vec::new(alloc),
+            pattern_lists: Vec::new(alloc),
+            exprs: Vec::new(alloc),
+            expr_lists: Vec::new(alloc),
+            part_lists: Vec::new(alloc),
+            chains: Vec::new(alloc),
+            after_minus: Vec::new(alloc),
+            records: Vec::new(alloc),
+            branches: Vec::new(alloc),
+            branch_lists: Vec::new(alloc),
+            definitions: Vec::new(alloc),
+            definition_lists: Vec::new(alloc),
+        },
     }
 }
 
@@ -70,7 +73,7 @@ fn advance(
     alloc: Global,
     actions: &[Action],
     step: Step,
-    stacks: &mut Stacks,
+    stacks: &mut Store,
 ) -> Result<(), AllocError>
     requires { actions.now ≡ elm_actions }
     ensures { OnOk result ((tokens : List Token) →
@@ -83,7 +86,7 @@ fn advance(
 }
 
 /// What the steps leave. The last one is the first to be done, so that what an action takes is there before it.
-fn run(alloc: Global, actions: &[Action], steps: &[Step]) -> Result<Stacks, AllocError>
+fn run(alloc: Global, actions: &[Action], steps: &[Step]) -> Result<Store, AllocError>
     requires { actions.now ≡ elm_actions }
     ensures { IfOk result (λ s. (tokens : List Token) → columns tokens s ≡ run tokens steps.now) }
 {

@@ -12,12 +12,13 @@ use crate::stack::{
     put_definition, put_rest, skip_word, take_expr, take_pattern, take_patterns, take_rest,
     take_word,
 };
-use crate::value::{Rest, Stacks};
+use crate::store::Store;
+use crate::value::Rest;
 use elm_tree::tree::Definition;
 use std::alloc::{AllocError, Global};
 
 /// `= e`
-pub fn constant(alloc: Global, stacks: &mut Stacks) -> Result<(), AllocError>
+pub fn constant(alloc: Global, stacks: &mut Store) -> Result<(), AllocError>
     ensures { OnOk result (Acts ConstantRest stacks.old stacks.new) }
 {
     skip_word(stacks);
@@ -26,18 +27,17 @@ pub fn constant(alloc: Global, stacks: &mut Stacks) -> Result<(), AllocError>
 }
 
 /// `p q = e`
-pub fn function(alloc: Global, stacks: &mut Stacks) -> Result<(), AllocError>
+pub fn function(alloc: Global, stacks: &mut Store) -> Result<(), AllocError>
     ensures { OnOk result (Acts FunctionRest stacks.old stacks.new) }
 {
-    let list = take_patterns(alloc, stacks);
+    let parameters = patterns(alloc, take_patterns(alloc, stacks))?;
     skip_word(stacks);
     let body = take_expr(stacks);
-    let parameters = patterns(alloc, list)?;
     put_rest(stacks, Rest::Bodied(parameters, body))
 }
 
 /// A definition with its name.
-pub fn named(stacks: &mut Stacks) -> Result<(), AllocError>
+pub fn named(stacks: &mut Store) -> Result<(), AllocError>
     ensures { OnOk result (Acts DefinitionOf stacks.old stacks.new) }
 {
     let name = take_word(stacks);
@@ -46,7 +46,7 @@ pub fn named(stacks: &mut Stacks) -> Result<(), AllocError>
 }
 
 /// `p = e`
-pub fn destructure(stacks: &mut Stacks) -> Result<(), AllocError>
+pub fn destructure(stacks: &mut Store) -> Result<(), AllocError>
     ensures { OnOk result (Acts DestructureOf stacks.old stacks.new) }
 {
     let begun = take_pattern(stacks);

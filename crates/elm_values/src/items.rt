@@ -9,42 +9,39 @@ ghost use Rattle.elm_grammar.specs.declared.action.Item.TheVariants as item;
 ghost use Rattle.elm_values.specs.Stack.{Acts};
 ghost use Rattle.elm_values.specs.Used.{grows, has_list, moves};
 
-use crate::lists::{one_item, put};
-use crate::stack::{
-    put_branches, put_constructors, put_declaration, put_definitions, put_exposed_list,
-    put_exposing, put_expr, put_exprs, put_field_types, put_header, put_module, put_parts,
-    put_pattern, put_patterns, put_type, put_types, put_words, skip_word, take_branch,
-    take_branches, take_constructor, take_constructors, take_declaration, take_definition,
-    take_definitions, take_exposed, take_exposed_list, take_exposing, take_expr, take_exprs,
-    take_header, take_module, take_pattern, take_patterns, take_type, take_types, take_word,
-    take_words,
+use crate::lists::{grow, keep, one_item, put_empty};
+use crate::nothing::{
+    no_branch, no_constructor, no_declaration, no_definition, no_exposed, no_expr, no_header,
+    no_module, no_pattern, no_type,
 };
-use crate::value::Stacks;
+use crate::stack::{put_words, skip_word, take_word};
+use crate::store::Store;
 use elm_grammar::action::Item;
+use elm_tree::tree::{Exposing, Word};
 use std::alloc::{AllocError, Global};
 
 /// No items.
-pub fn empty(alloc: Global, item: Item, stacks: &mut Stacks) -> Result<(), AllocError>
+pub fn empty(alloc: Global, item: Item, stacks: &mut Store) -> Result<(), AllocError>
     requires { IsTrue (has_list item) }
     ensures { OnOk result (Acts (Empty item) stacks.old stacks.new) }
 {
     match item {
-        Item::Word => put_words(stacks, Vec::new(alloc)),
-        Item::Exposed => put_exposed_list(stacks, Vec::new(alloc)),
-        Item::Constructor => put_constructors(stacks, Vec::new(alloc)),
-        Item::TypeTree => put_types(stacks, Vec::new(alloc)),
-        Item::FieldType => put_field_types(stacks, Vec::new(alloc)),
-        Item::Pattern => put_patterns(stacks, Vec::new(alloc)),
-        Item::Expr => put_exprs(stacks, Vec::new(alloc)),
-        Item::Part => put_parts(stacks, Vec::new(alloc)),
-        Item::Branch => put_branches(stacks, Vec::new(alloc)),
-        Item::Definition => put_definitions(stacks, Vec::new(alloc)),
+        Item::Word => put_empty(alloc, &mut stacks.held.word_lists),
+        Item::Exposed => put_empty(alloc, &mut stacks.held.exposed_lists),
+        Item::Constructor => put_empty(alloc, &mut stacks.held.constructor_lists),
+        Item::TypeTree => put_empty(alloc, &mut stacks.held.type_lists),
+        Item::FieldType => put_empty(alloc, &mut stacks.held.field_type_lists),
+        Item::Pattern => put_empty(alloc, &mut stacks.held.pattern_lists),
+        Item::Expr => put_empty(alloc, &mut stacks.held.expr_lists),
+        Item::Part => put_empty(alloc, &mut stacks.held.part_lists),
+        Item::Branch => put_empty(alloc, &mut stacks.held.branch_lists),
+        Item::Definition => put_empty(alloc, &mut stacks.held.definition_lists),
         _ => unreachable!(),
     }
 }
 
 /// No items, at a closing bracket.
-pub fn ended(alloc: Global, item: Item, stacks: &mut Stacks) -> Result<(), AllocError>
+pub fn ended(alloc: Global, item: Item, stacks: &mut Store) -> Result<(), AllocError>
     requires { IsTrue (has_list item) }
     ensures { OnOk result (Acts (End item) stacks.old stacks.new) }
 {
@@ -53,87 +50,103 @@ pub fn ended(alloc: Global, item: Item, stacks: &mut Stacks) -> Result<(), Alloc
 }
 
 /// One more in front.
-fn more_words(alloc: Global, stacks: &mut Stacks) -> Result<(), AllocError>
+fn more_words(alloc: Global, stacks: &mut Store) -> Result<(), AllocError>
     ensures { OnOk result (Acts (More item.Word) stacks.old stacks.new) }
 {
-    let first = take_word(stacks);
-    let mut list = take_words(alloc, stacks);
-    put(&mut list, first)?;
-    put_words(stacks, list)
+    grow(
+        alloc,
+        &mut stacks.held.words,
+        &mut stacks.held.word_lists,
+        Word { index: 0 },
+    )
 }
 
 /// One more in front.
-fn more_exposed(alloc: Global, stacks: &mut Stacks) -> Result<(), AllocError>
+pub fn more_exposed(alloc: Global, stacks: &mut Store) -> Result<(), AllocError>
     ensures { OnOk result (Acts (More item.Exposed) stacks.old stacks.new) }
 {
-    let first = take_exposed(stacks);
-    let mut list = take_exposed_list(alloc, stacks);
-    put(&mut list, first)?;
-    put_exposed_list(stacks, list)
+    grow(
+        alloc,
+        &mut stacks.held.exposed,
+        &mut stacks.held.exposed_lists,
+        no_exposed(),
+    )
 }
 
 /// One more in front.
-fn more_constructors(alloc: Global, stacks: &mut Stacks) -> Result<(), AllocError>
+pub fn more_constructors(alloc: Global, stacks: &mut Store) -> Result<(), AllocError>
     ensures { OnOk result (Acts (More item.Constructor) stacks.old stacks.new) }
 {
-    let first = take_constructor(alloc, stacks);
-    let mut list = take_constructors(alloc, stacks);
-    put(&mut list, first)?;
-    put_constructors(stacks, list)
+    grow(
+        alloc,
+        &mut stacks.held.constructors,
+        &mut stacks.held.constructor_lists,
+        no_constructor(alloc),
+    )
 }
 
 /// One more in front.
-fn more_types(alloc: Global, stacks: &mut Stacks) -> Result<(), AllocError>
+pub fn more_types(alloc: Global, stacks: &mut Store) -> Result<(), AllocError>
     ensures { OnOk result (Acts (More item.TypeTree) stacks.old stacks.new) }
 {
-    let first = take_type(stacks);
-    let mut list = take_types(alloc, stacks);
-    put(&mut list, first)?;
-    put_types(stacks, list)
+    grow(
+        alloc,
+        &mut stacks.held.types,
+        &mut stacks.held.type_lists,
+        no_type(),
+    )
 }
 
 /// One more in front.
-fn more_patterns(alloc: Global, stacks: &mut Stacks) -> Result<(), AllocError>
+pub fn more_patterns(alloc: Global, stacks: &mut Store) -> Result<(), AllocError>
     ensures { OnOk result (Acts (More item.Pattern) stacks.old stacks.new) }
 {
-    let first = take_pattern(stacks);
-    let mut list = take_patterns(alloc, stacks);
-    put(&mut list, first)?;
-    put_patterns(stacks, list)
+    grow(
+        alloc,
+        &mut stacks.held.patterns,
+        &mut stacks.held.pattern_lists,
+        no_pattern(),
+    )
 }
 
 /// One more in front.
-fn more_exprs(alloc: Global, stacks: &mut Stacks) -> Result<(), AllocError>
+pub fn more_exprs(alloc: Global, stacks: &mut Store) -> Result<(), AllocError>
     ensures { OnOk result (Acts (More item.Expr) stacks.old stacks.new) }
 {
-    let first = take_expr(stacks);
-    let mut list = take_exprs(alloc, stacks);
-    put(&mut list, first)?;
-    put_exprs(stacks, list)
+    grow(
+        alloc,
+        &mut stacks.held.exprs,
+        &mut stacks.held.expr_lists,
+        no_expr(),
+    )
 }
 
 /// One more in front.
-fn more_branches(alloc: Global, stacks: &mut Stacks) -> Result<(), AllocError>
+fn more_branches(alloc: Global, stacks: &mut Store) -> Result<(), AllocError>
     ensures { OnOk result (Acts (More item.Branch) stacks.old stacks.new) }
 {
-    let first = take_branch(stacks);
-    let mut list = take_branches(alloc, stacks);
-    put(&mut list, first)?;
-    put_branches(stacks, list)
+    grow(
+        alloc,
+        &mut stacks.held.branches,
+        &mut stacks.held.branch_lists,
+        no_branch(),
+    )
 }
 
 /// One more in front.
-fn more_definitions(alloc: Global, stacks: &mut Stacks) -> Result<(), AllocError>
+fn more_definitions(alloc: Global, stacks: &mut Store) -> Result<(), AllocError>
     ensures { OnOk result (Acts (More item.Definition) stacks.old stacks.new) }
 {
-    let first = take_definition(stacks);
-    let mut list = take_definitions(alloc, stacks);
-    put(&mut list, first)?;
-    put_definitions(stacks, list)
+    grow(
+        alloc,
+        &mut stacks.held.definitions,
+        &mut stacks.held.definition_lists,
+        no_definition(),
+    )
 }
 
 /// One item more in front.
-pub fn more(alloc: Global, item: Item, stacks: &mut Stacks) -> Result<(), AllocError>
+pub fn more(alloc: Global, item: Item, stacks: &mut Store) -> Result<(), AllocError>
     requires { IsTrue (grows item) }
     ensures { OnOk result (Acts (More item) stacks.old stacks.new) }
 {
@@ -151,7 +164,7 @@ pub fn more(alloc: Global, item: Item, stacks: &mut Stacks) -> Result<(), AllocE
 }
 
 /// One item more in front, after a word that separates them.
-pub fn comma(alloc: Global, item: Item, stacks: &mut Stacks) -> Result<(), AllocError>
+pub fn comma(alloc: Global, item: Item, stacks: &mut Store) -> Result<(), AllocError>
     requires { IsTrue (grows item) }
     ensures { OnOk result (Acts (Comma item) stacks.old stacks.new) }
 {
@@ -160,7 +173,7 @@ pub fn comma(alloc: Global, item: Item, stacks: &mut Stacks) -> Result<(), Alloc
 }
 
 /// The second of two words, as a list.
-pub fn second_word(alloc: Global, stacks: &mut Stacks) -> Result<(), AllocError>
+pub fn second_word(alloc: Global, stacks: &mut Store) -> Result<(), AllocError>
     ensures { OnOk result (Acts SecondAsList stacks.old stacks.new) }
 {
     skip_word(stacks);
@@ -168,57 +181,50 @@ pub fn second_word(alloc: Global, stacks: &mut Stacks) -> Result<(), AllocError>
     put_words(stacks, one_item(alloc, word)?)
 }
 
-fn same_module(alloc: Global, stacks: &mut Stacks) -> Result<(), AllocError>
+fn same_module(alloc: Global, stacks: &mut Store) -> Result<(), AllocError>
     ensures { OnOk result (Acts (Same item.Module) stacks.old stacks.new) }
 {
-    let value = take_module(alloc, stacks);
-    put_module(stacks, value)
+    keep(&mut stacks.held.modules, no_module(alloc))
 }
 
-fn same_header(stacks: &mut Stacks) -> Result<(), AllocError>
+fn same_header(stacks: &mut Store) -> Result<(), AllocError>
     ensures { OnOk result (Acts (Same item.Header) stacks.old stacks.new) }
 {
-    let value = take_header(stacks);
-    put_header(stacks, value)
+    keep(&mut stacks.held.headers, no_header())
 }
 
-fn same_exposing(stacks: &mut Stacks) -> Result<(), AllocError>
+fn same_exposing(stacks: &mut Store) -> Result<(), AllocError>
     ensures { OnOk result (Acts (Same item.Exposing) stacks.old stacks.new) }
 {
-    let value = take_exposing(stacks);
-    put_exposing(stacks, value)
+    keep(&mut stacks.held.exposings, Exposing::Everything)
 }
 
-fn same_declaration(stacks: &mut Stacks) -> Result<(), AllocError>
+fn same_declaration(stacks: &mut Store) -> Result<(), AllocError>
     ensures { OnOk result (Acts (Same item.Declaration) stacks.old stacks.new) }
 {
-    let value = take_declaration(stacks);
-    put_declaration(stacks, value)
+    keep(&mut stacks.held.declarations, no_declaration())
 }
 
-fn same_type(stacks: &mut Stacks) -> Result<(), AllocError>
+pub fn same_type(stacks: &mut Store) -> Result<(), AllocError>
     ensures { OnOk result (Acts (Same item.TypeTree) stacks.old stacks.new) }
 {
-    let value = take_type(stacks);
-    put_type(stacks, value)
+    keep(&mut stacks.held.types, no_type())
 }
 
-fn same_pattern(stacks: &mut Stacks) -> Result<(), AllocError>
+pub fn same_pattern(stacks: &mut Store) -> Result<(), AllocError>
     ensures { OnOk result (Acts (Same item.Pattern) stacks.old stacks.new) }
 {
-    let value = take_pattern(stacks);
-    put_pattern(stacks, value)
+    keep(&mut stacks.held.patterns, no_pattern())
 }
 
-fn same_expr(stacks: &mut Stacks) -> Result<(), AllocError>
+pub fn same_expr(stacks: &mut Store) -> Result<(), AllocError>
     ensures { OnOk result (Acts (Same item.Expr) stacks.old stacks.new) }
 {
-    let value = take_expr(stacks);
-    put_expr(stacks, value)
+    keep(&mut stacks.held.exprs, no_expr())
 }
 
 /// The value itself.
-pub fn same(alloc: Global, item: Item, stacks: &mut Stacks) -> Result<(), AllocError>
+pub fn same(alloc: Global, item: Item, stacks: &mut Store) -> Result<(), AllocError>
     requires { IsTrue (moves item) }
     ensures { OnOk result (Acts (Same item) stacks.old stacks.new) }
 {
@@ -235,7 +241,7 @@ pub fn same(alloc: Global, item: Item, stacks: &mut Stacks) -> Result<(), AllocE
 }
 
 /// The value after a word.
-pub fn second(alloc: Global, item: Item, stacks: &mut Stacks) -> Result<(), AllocError>
+pub fn second(alloc: Global, item: Item, stacks: &mut Store) -> Result<(), AllocError>
     requires { IsTrue (moves item) }
     ensures { OnOk result (Acts (Second item) stacks.old stacks.new) }
 {

@@ -12,5 +12,6 @@ mod modules;
 mod nothing;
 mod patterns;
 mod stack;
+mod store;
 mod types;
 pub mod value;

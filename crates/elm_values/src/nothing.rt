@@ -9,7 +9,6 @@ ghost use Rattle.elm_tree.specs.View.{expr_view, header_view, import_view, type_
 ghost use Rattle.elm_grammar.specs.declared.action.Item.TheVariants as item;
 ghost use Rattle.elm_values.specs.Stack.{begun_view, built_module, chain_view, default_of, fields_view, rest_view};
 
-use crate::make::branch;
 use crate::value::{Begun, Chain, Fields, Rest};
 use elm_tree::tree::{
     Branch, Constructor, Declaration, Definition, Exposed, Exposing, Expr, Head, Header, Import,
@@ -122,7 +121,10 @@ pub fn no_fields(alloc: Global) -> Fields
 pub fn no_branch() -> Branch
     ensures { (tokens : List Token) → branch_view tokens result ≡ default_of tokens item.Branch }
 {
-    branch(Pattern::OneWord(Word { index: 0 }), no_expr())
+    Branch {
+        pattern: Pattern::OneWord(Word { index: 0 }),
+        body: no_expr(),
+    }
 }
 
 pub fn no_definition() -> Definition

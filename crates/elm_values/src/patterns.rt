@@ -11,12 +11,13 @@ ghost use Rattle.elm_values.specs.Stack.{Acts};
 use crate::lists::turned;
 use crate::make::{bracketed_pattern, conses, named, patterns};
 use crate::stack::{put_pattern, take_pattern, take_patterns, take_word, take_words};
-use crate::value::{Begun, Stacks};
+use crate::store::Store;
+use crate::value::Begun;
 use elm_tree::tree::Pattern;
 use std::alloc::{AllocError, Global};
 
 /// A pattern, the others and a name.
-pub fn pattern_of(alloc: Global, stacks: &mut Stacks) -> Result<(), AllocError>
+pub fn pattern_of(alloc: Global, stacks: &mut Store) -> Result<(), AllocError>
     ensures { OnOk result (Acts PatternOf stacks.old stacks.new) }
 {
     let begun = take_pattern(stacks);
@@ -28,7 +29,7 @@ pub fn pattern_of(alloc: Global, stacks: &mut Stacks) -> Result<(), AllocError>
 }
 
 /// A constructor and its arguments.
-pub fn construct(alloc: Global, stacks: &mut Stacks) -> Result<(), AllocError>
+pub fn construct(alloc: Global, stacks: &mut Store) -> Result<(), AllocError>
     ensures { OnOk result (Acts ConstructOf stacks.old stacks.new) }
 {
     let place = take_word(stacks);
@@ -43,7 +44,7 @@ pub fn construct(alloc: Global, stacks: &mut Stacks) -> Result<(), AllocError>
 }
 
 /// A constructor without arguments.
-pub fn construct_alone(alloc: Global, stacks: &mut Stacks) -> Result<(), AllocError>
+pub fn construct_alone(alloc: Global, stacks: &mut Store) -> Result<(), AllocError>
     ensures { OnOk result (Acts ConstructAlone stacks.old stacks.new) }
 {
     let place = take_word(stacks);
@@ -57,7 +58,7 @@ pub fn construct_alone(alloc: Global, stacks: &mut Stacks) -> Result<(), AllocEr
 }
 
 /// A pattern of one word.
-pub fn word(stacks: &mut Stacks) -> Result<(), AllocError>
+pub fn word(stacks: &mut Store) -> Result<(), AllocError>
     ensures { OnOk result (Acts WordPattern stacks.old stacks.new) }
 {
     let place = take_word(stacks);
@@ -71,7 +72,7 @@ pub fn word(stacks: &mut Stacks) -> Result<(), AllocError>
 }
 
 /// `-1`
-pub fn negative(stacks: &mut Stacks) -> Result<(), AllocError>
+pub fn negative(stacks: &mut Store) -> Result<(), AllocError>
     ensures { OnOk result (Acts NegativePattern stacks.old stacks.new) }
 {
     let place = take_word(stacks);
@@ -86,7 +87,7 @@ pub fn negative(stacks: &mut Stacks) -> Result<(), AllocError>
 }
 
 /// Patterns in parentheses.
-pub fn brackets(alloc: Global, stacks: &mut Stacks) -> Result<(), AllocError>
+pub fn brackets(alloc: Global, stacks: &mut Store) -> Result<(), AllocError>
     ensures { OnOk result (Acts BracketPattern stacks.old stacks.new) }
 {
     let place = take_word(stacks);
@@ -96,7 +97,7 @@ pub fn brackets(alloc: Global, stacks: &mut Stacks) -> Result<(), AllocError>
 }
 
 /// `[ p, q ]`
-pub fn list(alloc: Global, stacks: &mut Stacks) -> Result<(), AllocError>
+pub fn list(alloc: Global, stacks: &mut Store) -> Result<(), AllocError>
     ensures { OnOk result (Acts ListPatternOf stacks.old stacks.new) }
 {
     let place = take_word(stacks);
@@ -111,7 +112,7 @@ pub fn list(alloc: Global, stacks: &mut Stacks) -> Result<(), AllocError>
 }
 
 /// `{ x, y }`
-pub fn fields(alloc: Global, stacks: &mut Stacks) -> Result<(), AllocError>
+pub fn fields(alloc: Global, stacks: &mut Store) -> Result<(), AllocError>
     ensures { OnOk result (Acts FieldsPatternOf stacks.old stacks.new) }
 {
     let place = take_word(stacks);

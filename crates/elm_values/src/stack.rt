@@ -2,7 +2,7 @@
 
 #![tactic(auto)]
 
-ghost use Rattle.std.specs.Prelude.{◌≡◌, ◌∷◌, reverse, List, OnOk};
+ghost use Rattle.std.specs.Prelude.{◌≡◌, List, IfOk, OnOk};
 ghost use Rattle.elm_lexer.specs.Tokens.{Token};
 ghost use Rattle.elm_tree.specs.View.{branch_view, constructor_view, declaration_view, definition_view, exposed_view};
 ghost use Rattle.elm_tree.specs.View.{exposing_view, expr_view, field_type_view, header_view, import_view, part_view};
@@ -10,471 +10,375 @@ ghost use Rattle.elm_tree.specs.View.{token_view, type_view};
 ghost use Rattle.elm_grammar.specs.declared.action.Item.TheVariants as item;
 ghost use Rattle.elm_grammar.specs.Values.{One, Many};
 ghost use Rattle.elm_values.specs.Stack.{after_view, begun_view, built_module, chain_view, columns, fields_view};
-ghost use Rattle.elm_values.specs.Stack.{head_or, held, pop, push, rest_view, tail, top};
+ghost use Rattle.elm_values.specs.Stack.{held, pop, push, rest_view, top};
 
-use crate::lists::{put, take_or};
+use crate::lists::{put, take_boxed, take_or};
 use crate::nothing::{
-    no_branch, no_chain, no_constructor, no_declaration, no_definition, no_exposed, no_expr,
-    no_fields, no_header, no_import, no_module, no_pattern, no_rest, no_type,
+    no_chain, no_expr, no_fields, no_header, no_module, no_pattern, no_rest, no_type,
 };
-use crate::value::{AfterMinus, Begun, Chain, Fields, Rest, Stacks};
+use crate::store::Store;
+use crate::value::{AfterMinus, Begun, Chain, Fields, Rest};
 use elm_tree::tree::{
     Branch, Constructor, Declaration, Definition, Exposed, Exposing, Expr, FieldType, Header,
     Import, Module, Part, TypeTree, Word,
 };
 use std::alloc::{AllocError, Global};
 
-pub fn take_word(stacks: &mut Stacks) -> Word
+pub fn take_word(stacks: &mut Store) -> Word
     ensures value { (tokens : List Token) →
         token_view tokens result ≡ top tokens (One item.Word) (columns tokens stacks.old) }
     ensures rest { (tokens : List Token) → columns tokens stacks.new ≡ pop (One item.Word) (columns tokens stacks.old) }
 {
-    take_or(&mut stacks.words, Word { index: 0 })
+    take_or(&mut stacks.held.words, Word { index: 0 })
 }
 
-pub fn put_word(stacks: &mut Stacks, word: Word) -> Result<(), AllocError>
+pub fn put_word(stacks: &mut Store, word: Word) -> Result<(), AllocError>
     ensures { OnOk result ((tokens : List Token) →
         columns tokens stacks.new ≡ push (One item.Word) (token_view tokens word) (columns tokens stacks.old)) }
 {
-    put(&mut stacks.words, word)
+    put(&mut stacks.held.words, word)
 }
 
 /// Takes a word that says nothing more.
-pub fn skip_word(stacks: &mut Stacks)
+pub fn skip_word(stacks: &mut Store)
     ensures { (tokens : List Token) → columns tokens stacks.new ≡ pop (One item.Word) (columns tokens stacks.old) }
 {
     let _word = take_word(stacks);
 }
 
-pub fn take_module(alloc: Global, stacks: &mut Stacks) -> Module
+pub fn take_module(alloc: Global, stacks: &mut Store) -> Module
     ensures value { (tokens : List Token) →
         built_module tokens result ≡ top tokens (One item.Module) (columns tokens stacks.old) }
     ensures rest { (tokens : List Token) →
         columns tokens stacks.new ≡ pop (One item.Module) (columns tokens stacks.old) }
 {
-    take_or(&mut stacks.modules, no_module(alloc))
+    take_or(&mut stacks.held.modules, no_module(alloc))
 }
 
-pub fn put_module(stacks: &mut Stacks, built: Module) -> Result<(), AllocError>
+pub fn put_module(stacks: &mut Store, built: Module) -> Result<(), AllocError>
     ensures { OnOk result ((tokens : List Token) →
         columns tokens stacks.new ≡ push (One item.Module) (built_module tokens built) (columns tokens stacks.old)) }
 {
-    put(&mut stacks.modules, built)
+    put(&mut stacks.held.modules, built)
 }
 
-pub fn take_header(stacks: &mut Stacks) -> Header
+pub fn take_header(stacks: &mut Store) -> Header
     ensures value { (tokens : List Token) →
         header_view tokens result ≡ top tokens (One item.Header) (columns tokens stacks.old) }
     ensures rest { (tokens : List Token) →
         columns tokens stacks.new ≡ pop (One item.Header) (columns tokens stacks.old) }
 {
-    take_or(&mut stacks.headers, no_header())
+    take_or(&mut stacks.held.headers, no_header())
 }
 
-pub fn put_header(stacks: &mut Stacks, header: Header) -> Result<(), AllocError>
+pub fn put_header(stacks: &mut Store, header: Header) -> Result<(), AllocError>
     ensures { OnOk result ((tokens : List Token) →
         columns tokens stacks.new ≡ push (One item.Header) (header_view tokens header) (columns tokens stacks.old)) }
 {
-    put(&mut stacks.headers, header)
+    put(&mut stacks.held.headers, header)
 }
 
-pub fn take_exposing(stacks: &mut Stacks) -> Exposing
+pub fn take_exposing(stacks: &mut Store) -> Exposing
     ensures value { (tokens : List Token) →
         exposing_view tokens result ≡ top tokens (One item.Exposing) (columns tokens stacks.old) }
     ensures rest { (tokens : List Token) →
         columns tokens stacks.new ≡ pop (One item.Exposing) (columns tokens stacks.old) }
 {
-    take_or(&mut stacks.exposings, Exposing::Everything)
+    take_or(&mut stacks.held.exposings, Exposing::Everything)
 }
 
-pub fn put_exposing(stacks: &mut Stacks, exposing: Exposing) -> Result<(), AllocError>
+pub fn put_exposing(stacks: &mut Store, exposing: Exposing) -> Result<(), AllocError>
     ensures { OnOk result ((tokens : List Token) →
         columns tokens stacks.new
         ≡ push (One item.Exposing) (exposing_view tokens exposing) (columns tokens stacks.old)) }
 {
-    put(&mut stacks.exposings, exposing)
+    put(&mut stacks.held.exposings, exposing)
 }
 
-pub fn take_exposed(stacks: &mut Stacks) -> Exposed
-    ensures value { (tokens : List Token) →
-        exposed_view tokens result ≡ top tokens (One item.Exposed) (columns tokens stacks.old) }
-    ensures rest { (tokens : List Token) →
-        columns tokens stacks.new ≡ pop (One item.Exposed) (columns tokens stacks.old) }
-{
-    take_or(&mut stacks.exposed, no_exposed())
-}
-
-pub fn put_exposed(stacks: &mut Stacks, exposed: Exposed) -> Result<(), AllocError>
+pub fn put_exposed(stacks: &mut Store, exposed: Exposed) -> Result<(), AllocError>
     ensures { OnOk result ((tokens : List Token) →
         columns tokens stacks.new ≡ push (One item.Exposed) (exposed_view tokens exposed) (columns tokens stacks.old)) }
 {
-    put(&mut stacks.exposed, exposed)
+    put(&mut stacks.held.exposed, exposed)
 }
 
-pub fn take_import(stacks: &mut Stacks) -> Import
-    ensures value { (tokens : List Token) →
-        import_view tokens result ≡ top tokens (One item.Import) (columns tokens stacks.old) }
-    ensures rest { (tokens : List Token) →
-        columns tokens stacks.new ≡ pop (One item.Import) (columns tokens stacks.old) }
-{
-    take_or(&mut stacks.imports, no_import())
-}
-
-pub fn put_import(stacks: &mut Stacks, import: Import) -> Result<(), AllocError>
+pub fn put_import(stacks: &mut Store, import: Import) -> Result<(), AllocError>
     ensures { OnOk result ((tokens : List Token) →
         columns tokens stacks.new ≡ push (One item.Import) (import_view tokens import) (columns tokens stacks.old)) }
 {
-    put(&mut stacks.imports, import)
+    put(&mut stacks.held.imports, import)
 }
 
-pub fn take_declaration(stacks: &mut Stacks) -> Declaration
-    ensures value { (tokens : List Token) →
-        declaration_view tokens result ≡ top tokens (One item.Declaration) (columns tokens stacks.old) }
-    ensures rest { (tokens : List Token) →
-        columns tokens stacks.new ≡ pop (One item.Declaration) (columns tokens stacks.old) }
-{
-    take_or(&mut stacks.declarations, no_declaration())
-}
-
-pub fn put_declaration(stacks: &mut Stacks, declaration: Declaration) -> Result<(), AllocError>
+pub fn put_declaration(stacks: &mut Store, declaration: Declaration) -> Result<(), AllocError>
     ensures { OnOk result ((tokens : List Token) →
         columns tokens stacks.new
         ≡ push (One item.Declaration) (declaration_view tokens declaration) (columns tokens stacks.old)) }
 {
-    put(&mut stacks.declarations, declaration)
+    put(&mut stacks.held.declarations, declaration)
 }
 
-pub fn take_rest(stacks: &mut Stacks) -> Rest
+pub fn take_rest(stacks: &mut Store) -> Rest
     ensures value { (tokens : List Token) →
         rest_view tokens result ≡ top tokens (One item.Rest) (columns tokens stacks.old) }
     ensures rest { (tokens : List Token) → columns tokens stacks.new ≡ pop (One item.Rest) (columns tokens stacks.old) }
 {
-    take_or(&mut stacks.rests, no_rest())
+    take_or(&mut stacks.held.rests, no_rest())
 }
 
-pub fn put_rest(stacks: &mut Stacks, rest: Rest) -> Result<(), AllocError>
+pub fn put_rest(stacks: &mut Store, rest: Rest) -> Result<(), AllocError>
     ensures { OnOk result ((tokens : List Token) →
         columns tokens stacks.new ≡ push (One item.Rest) (rest_view tokens rest) (columns tokens stacks.old)) }
 {
-    put(&mut stacks.rests, rest)
+    put(&mut stacks.held.rests, rest)
 }
 
-pub fn take_constructor(alloc: Global, stacks: &mut Stacks) -> Constructor
-    ensures value { (tokens : List Token) →
-        constructor_view tokens result ≡ top tokens (One item.Constructor) (columns tokens stacks.old) }
-    ensures rest { (tokens : List Token) →
-        columns tokens stacks.new ≡ pop (One item.Constructor) (columns tokens stacks.old) }
-{
-    take_or(&mut stacks.constructors, no_constructor(alloc))
-}
-
-pub fn put_constructor(stacks: &mut Stacks, constructor: Constructor) -> Result<(), AllocError>
+pub fn put_constructor(stacks: &mut Store, constructor: Constructor) -> Result<(), AllocError>
     ensures { OnOk result ((tokens : List Token) →
         columns tokens stacks.new
         ≡ push (One item.Constructor) (constructor_view tokens constructor) (columns tokens stacks.old)) }
 {
-    put(&mut stacks.constructors, constructor)
+    put(&mut stacks.held.constructors, constructor)
 }
 
-pub fn take_type(stacks: &mut Stacks) -> TypeTree
+pub fn take_type(stacks: &mut Store) -> TypeTree
     ensures value { (tokens : List Token) →
         type_view tokens result ≡ top tokens (One item.TypeTree) (columns tokens stacks.old) }
     ensures rest { (tokens : List Token) →
         columns tokens stacks.new ≡ pop (One item.TypeTree) (columns tokens stacks.old) }
 {
-    take_or(&mut stacks.types, no_type())
+    take_or(&mut stacks.held.types, no_type())
 }
 
-pub fn put_type(stacks: &mut Stacks, type_tree: TypeTree) -> Result<(), AllocError>
+pub fn put_type(stacks: &mut Store, type_tree: TypeTree) -> Result<(), AllocError>
     ensures { OnOk result ((tokens : List Token) →
         columns tokens stacks.new ≡ push (One item.TypeTree) (type_view tokens type_tree) (columns tokens stacks.old)) }
 {
-    put(&mut stacks.types, type_tree)
+    put(&mut stacks.held.types, type_tree)
 }
 
-pub fn take_pattern(stacks: &mut Stacks) -> Begun
+pub fn take_pattern(stacks: &mut Store) -> Begun
     ensures value { (tokens : List Token) →
         begun_view tokens result ≡ top tokens (One item.Pattern) (columns tokens stacks.old) }
     ensures rest { (tokens : List Token) →
         columns tokens stacks.new ≡ pop (One item.Pattern) (columns tokens stacks.old) }
 {
-    take_or(&mut stacks.patterns, no_pattern())
+    take_or(&mut stacks.held.patterns, no_pattern())
 }
 
-pub fn put_pattern(stacks: &mut Stacks, pattern: Begun) -> Result<(), AllocError>
+pub fn put_pattern(stacks: &mut Store, pattern: Begun) -> Result<(), AllocError>
     ensures { OnOk result ((tokens : List Token) →
         columns tokens stacks.new ≡ push (One item.Pattern) (begun_view tokens pattern) (columns tokens stacks.old)) }
 {
-    put(&mut stacks.patterns, pattern)
+    put(&mut stacks.held.patterns, pattern)
 }
 
-pub fn take_expr(stacks: &mut Stacks) -> Expr
+pub fn take_expr(stacks: &mut Store) -> Expr
     ensures value { (tokens : List Token) →
         expr_view tokens result ≡ top tokens (One item.Expr) (columns tokens stacks.old) }
     ensures rest { (tokens : List Token) → columns tokens stacks.new ≡ pop (One item.Expr) (columns tokens stacks.old) }
 {
-    take_or(&mut stacks.exprs, no_expr())
+    take_or(&mut stacks.held.exprs, no_expr())
 }
 
-pub fn put_expr(stacks: &mut Stacks, expr: Expr) -> Result<(), AllocError>
+/// The last expression, in a box.
+pub fn take_boxed_expr(alloc: Global, stacks: &mut Store) -> Result<Box<Expr>, AllocError>
+    ensures value { IfOk result (λ made. (tokens : List Token) →
+        expr_view tokens made.value ≡ top tokens (One item.Expr) (columns tokens stacks.old)) }
+    ensures rest { OnOk result ((tokens : List Token) →
+        columns tokens stacks.new ≡ pop (One item.Expr) (columns tokens stacks.old)) }
+{
+    take_boxed(alloc, &mut stacks.held.exprs, no_expr())
+}
+
+pub fn put_expr(stacks: &mut Store, expr: Expr) -> Result<(), AllocError>
     ensures { OnOk result ((tokens : List Token) →
         columns tokens stacks.new ≡ push (One item.Expr) (expr_view tokens expr) (columns tokens stacks.old)) }
 {
-    put(&mut stacks.exprs, expr)
+    put(&mut stacks.held.exprs, expr)
 }
 
-pub fn take_chain(alloc: Global, stacks: &mut Stacks) -> Chain
+pub fn take_chain(alloc: Global, stacks: &mut Store) -> Chain
     ensures value { (tokens : List Token) →
         chain_view tokens result ≡ top tokens (One item.Chain) (columns tokens stacks.old) }
     ensures rest { (tokens : List Token) →
         columns tokens stacks.new ≡ pop (One item.Chain) (columns tokens stacks.old) }
 {
-    take_or(&mut stacks.chains, no_chain(alloc))
+    take_or(&mut stacks.held.chains, no_chain(alloc))
 }
 
-pub fn put_chain(stacks: &mut Stacks, chain: Chain) -> Result<(), AllocError>
+pub fn put_chain(stacks: &mut Store, chain: Chain) -> Result<(), AllocError>
     ensures { OnOk result ((tokens : List Token) →
         columns tokens stacks.new ≡ push (One item.Chain) (chain_view tokens chain) (columns tokens stacks.old)) }
 {
-    put(&mut stacks.chains, chain)
+    put(&mut stacks.held.chains, chain)
 }
 
-pub fn take_after_minus(stacks: &mut Stacks) -> AfterMinus
+pub fn take_after_minus(stacks: &mut Store) -> AfterMinus
     ensures value { (tokens : List Token) →
         after_view tokens result ≡ top tokens (One item.AfterMinus) (columns tokens stacks.old) }
     ensures rest { (tokens : List Token) →
         columns tokens stacks.new ≡ pop (One item.AfterMinus) (columns tokens stacks.old) }
 {
-    take_or(&mut stacks.after_minus, AfterMinus::Closed)
+    take_or(&mut stacks.held.after_minus, AfterMinus::Closed)
 }
 
-pub fn put_after_minus(stacks: &mut Stacks, after_minus: AfterMinus) -> Result<(), AllocError>
+pub fn put_after_minus(stacks: &mut Store, after_minus: AfterMinus) -> Result<(), AllocError>
     ensures { OnOk result ((tokens : List Token) →
         columns tokens stacks.new
         ≡ push (One item.AfterMinus) (after_view tokens after_minus) (columns tokens stacks.old)) }
 {
-    put(&mut stacks.after_minus, after_minus)
+    put(&mut stacks.held.after_minus, after_minus)
 }
 
-pub fn take_fields(alloc: Global, stacks: &mut Stacks) -> Fields
+pub fn take_fields(alloc: Global, stacks: &mut Store) -> Fields
     ensures value { (tokens : List Token) →
         fields_view tokens result ≡ top tokens (One item.Record) (columns tokens stacks.old) }
     ensures rest { (tokens : List Token) →
         columns tokens stacks.new ≡ pop (One item.Record) (columns tokens stacks.old) }
 {
-    take_or(&mut stacks.records, no_fields(alloc))
+    take_or(&mut stacks.held.records, no_fields(alloc))
 }
 
-pub fn put_fields(stacks: &mut Stacks, fields: Fields) -> Result<(), AllocError>
+pub fn put_fields(stacks: &mut Store, fields: Fields) -> Result<(), AllocError>
     ensures { OnOk result ((tokens : List Token) →
         columns tokens stacks.new ≡ push (One item.Record) (fields_view tokens fields) (columns tokens stacks.old)) }
 {
-    put(&mut stacks.records, fields)
+    put(&mut stacks.held.records, fields)
 }
 
-pub fn take_branch(stacks: &mut Stacks) -> Branch
-    ensures value { (tokens : List Token) →
-        branch_view tokens result ≡ top tokens (One item.Branch) (columns tokens stacks.old) }
-    ensures rest { (tokens : List Token) →
-        columns tokens stacks.new ≡ pop (One item.Branch) (columns tokens stacks.old) }
-{
-    take_or(&mut stacks.branches, no_branch())
-}
-
-pub fn put_branch(stacks: &mut Stacks, branch: Branch) -> Result<(), AllocError>
+pub fn put_branch(stacks: &mut Store, branch: Branch) -> Result<(), AllocError>
     ensures { OnOk result ((tokens : List Token) →
         columns tokens stacks.new ≡ push (One item.Branch) (branch_view tokens branch) (columns tokens stacks.old)) }
 {
-    put(&mut stacks.branches, branch)
+    put(&mut stacks.held.branches, branch)
 }
 
-pub fn take_definition(stacks: &mut Stacks) -> Definition
-    ensures value { (tokens : List Token) →
-        definition_view tokens result ≡ top tokens (One item.Definition) (columns tokens stacks.old) }
-    ensures rest { (tokens : List Token) →
-        columns tokens stacks.new ≡ pop (One item.Definition) (columns tokens stacks.old) }
-{
-    take_or(&mut stacks.definitions, no_definition())
-}
-
-pub fn put_definition(stacks: &mut Stacks, definition: Definition) -> Result<(), AllocError>
+pub fn put_definition(stacks: &mut Store, definition: Definition) -> Result<(), AllocError>
     ensures { OnOk result ((tokens : List Token) →
         columns tokens stacks.new
         ≡ push (One item.Definition) (definition_view tokens definition) (columns tokens stacks.old)) }
 {
-    put(&mut stacks.definitions, definition)
+    put(&mut stacks.held.definitions, definition)
 }
 
-pub fn take_words(alloc: Global, stacks: &mut Stacks) -> Vec<Word>
+pub fn take_words(alloc: Global, stacks: &mut Store) -> Vec<Word>
     ensures value { (tokens : List Token) →
         held (token_view tokens) result.items ≡ top tokens (Many item.Word) (columns tokens stacks.old) }
     ensures rest { (tokens : List Token) →
         columns tokens stacks.new ≡ pop (Many item.Word) (columns tokens stacks.old) }
 {
-    take_or(&mut stacks.word_lists, Vec::new(alloc))
+    take_or(&mut stacks.held.word_lists, Vec::new(alloc))
 }
 
-pub fn put_words(stacks: &mut Stacks, words: Vec<Word>) -> Result<(), AllocError>
+pub fn put_words(stacks: &mut Store, words: Vec<Word>) -> Result<(), AllocError>
     ensures { OnOk result ((tokens : List Token) →
         columns tokens stacks.new
         ≡ push (Many item.Word) (held (token_view tokens) words.items) (columns tokens stacks.old)) }
 {
-    put(&mut stacks.word_lists, words)
+    put(&mut stacks.held.word_lists, words)
 }
 
-pub fn take_exposed_list(alloc: Global, stacks: &mut Stacks) -> Vec<Exposed>
+pub fn take_exposed_list(alloc: Global, stacks: &mut Store) -> Vec<Exposed>
     ensures value { (tokens : List Token) →
         held (exposed_view tokens) result.items ≡ top tokens (Many item.Exposed) (columns tokens stacks.old) }
     ensures rest { (tokens : List Token) →
         columns tokens stacks.new ≡ pop (Many item.Exposed) (columns tokens stacks.old) }
 {
-    take_or(&mut stacks.exposed_lists, Vec::new(alloc))
+    take_or(&mut stacks.held.exposed_lists, Vec::new(alloc))
 }
 
-pub fn put_exposed_list(stacks: &mut Stacks, exposed_list: Vec<Exposed>) -> Result<(), AllocError>
-    ensures { OnOk result ((tokens : List Token) →
-        columns tokens stacks.new
-        ≡ push (Many item.Exposed) (held (exposed_view tokens) exposed_list.items) (columns tokens stacks.old)) }
-{
-    put(&mut stacks.exposed_lists, exposed_list)
-}
-
-pub fn take_constructors(alloc: Global, stacks: &mut Stacks) -> Vec<Constructor>
+pub fn take_constructors(alloc: Global, stacks: &mut Store) -> Vec<Constructor>
     ensures value { (tokens : List Token) →
         held (constructor_view tokens) result.items ≡ top tokens (Many item.Constructor) (columns tokens stacks.old) }
     ensures rest { (tokens : List Token) →
         columns tokens stacks.new ≡ pop (Many item.Constructor) (columns tokens stacks.old) }
 {
-    take_or(&mut stacks.constructor_lists, Vec::new(alloc))
+    take_or(&mut stacks.held.constructor_lists, Vec::new(alloc))
 }
 
-pub fn put_constructors(
-    stacks: &mut Stacks,
-    constructors: Vec<Constructor>,
-) -> Result<(), AllocError>
-    ensures { OnOk result ((tokens : List Token) →
-        columns tokens stacks.new
-        ≡ push (Many item.Constructor) (held (constructor_view tokens) constructors.items)
-        (columns tokens stacks.old)) }
-{
-    put(&mut stacks.constructor_lists, constructors)
-}
-
-pub fn take_types(alloc: Global, stacks: &mut Stacks) -> Vec<TypeTree>
+pub fn take_types(alloc: Global, stacks: &mut Store) -> Vec<TypeTree>
     ensures value { (tokens : List Token) →
         held (type_view tokens) result.items ≡ top tokens (Many item.TypeTree) (columns tokens stacks.old) }
     ensures rest { (tokens : List Token) →
         columns tokens stacks.new ≡ pop (Many item.TypeTree) (columns tokens stacks.old) }
 {
-    take_or(&mut stacks.type_lists, Vec::new(alloc))
+    take_or(&mut stacks.held.type_lists, Vec::new(alloc))
 }
 
-pub fn put_types(stacks: &mut Stacks, types: Vec<TypeTree>) -> Result<(), AllocError>
+pub fn put_types(stacks: &mut Store, types: Vec<TypeTree>) -> Result<(), AllocError>
     ensures { OnOk result ((tokens : List Token) →
         columns tokens stacks.new
         ≡ push (Many item.TypeTree) (held (type_view tokens) types.items) (columns tokens stacks.old)) }
 {
-    put(&mut stacks.type_lists, types)
+    put(&mut stacks.held.type_lists, types)
 }
 
-pub fn take_field_types(alloc: Global, stacks: &mut Stacks) -> Vec<FieldType>
+pub fn take_field_types(alloc: Global, stacks: &mut Store) -> Vec<FieldType>
     ensures value { (tokens : List Token) →
         held (field_type_view tokens) result.items ≡ top tokens (Many item.FieldType) (columns tokens stacks.old) }
     ensures rest { (tokens : List Token) →
         columns tokens stacks.new ≡ pop (Many item.FieldType) (columns tokens stacks.old) }
 {
-    take_or(&mut stacks.field_type_lists, Vec::new(alloc))
+    take_or(&mut stacks.held.field_type_lists, Vec::new(alloc))
 }
 
-pub fn put_field_types(stacks: &mut Stacks, field_types: Vec<FieldType>) -> Result<(), AllocError>
-    ensures { OnOk result ((tokens : List Token) →
-        columns tokens stacks.new
-        ≡ push (Many item.FieldType) (held (field_type_view tokens) field_types.items) (columns tokens stacks.old)) }
-{
-    put(&mut stacks.field_type_lists, field_types)
-}
-
-pub fn take_patterns(alloc: Global, stacks: &mut Stacks) -> Vec<Begun>
+pub fn take_patterns(alloc: Global, stacks: &mut Store) -> Vec<Begun>
     ensures value { (tokens : List Token) →
         held (begun_view tokens) result.items ≡ top tokens (Many item.Pattern) (columns tokens stacks.old) }
     ensures rest { (tokens : List Token) →
         columns tokens stacks.new ≡ pop (Many item.Pattern) (columns tokens stacks.old) }
 {
-    take_or(&mut stacks.pattern_lists, Vec::new(alloc))
+    take_or(&mut stacks.held.pattern_lists, Vec::new(alloc))
 }
 
-pub fn put_patterns(stacks: &mut Stacks, patterns: Vec<Begun>) -> Result<(), AllocError>
-    ensures { OnOk result ((tokens : List Token) →
-        columns tokens stacks.new
-        ≡ push (Many item.Pattern) (held (begun_view tokens) patterns.items) (columns tokens stacks.old)) }
-{
-    put(&mut stacks.pattern_lists, patterns)
-}
-
-pub fn take_exprs(alloc: Global, stacks: &mut Stacks) -> Vec<Expr>
+pub fn take_exprs(alloc: Global, stacks: &mut Store) -> Vec<Expr>
     ensures value { (tokens : List Token) →
         held (expr_view tokens) result.items ≡ top tokens (Many item.Expr) (columns tokens stacks.old) }
     ensures rest { (tokens : List Token) →
         columns tokens stacks.new ≡ pop (Many item.Expr) (columns tokens stacks.old) }
 {
-    take_or(&mut stacks.expr_lists, Vec::new(alloc))
+    take_or(&mut stacks.held.expr_lists, Vec::new(alloc))
 }
 
-pub fn put_exprs(stacks: &mut Stacks, exprs: Vec<Expr>) -> Result<(), AllocError>
+pub fn put_exprs(stacks: &mut Store, exprs: Vec<Expr>) -> Result<(), AllocError>
     ensures { OnOk result ((tokens : List Token) →
         columns tokens stacks.new
         ≡ push (Many item.Expr) (held (expr_view tokens) exprs.items) (columns tokens stacks.old)) }
 {
-    put(&mut stacks.expr_lists, exprs)
+    put(&mut stacks.held.expr_lists, exprs)
 }
 
-pub fn take_parts(alloc: Global, stacks: &mut Stacks) -> Vec<Part>
+pub fn take_parts(alloc: Global, stacks: &mut Store) -> Vec<Part>
     ensures value { (tokens : List Token) →
         held (part_view tokens) result.items ≡ top tokens (Many item.Part) (columns tokens stacks.old) }
     ensures rest { (tokens : List Token) →
         columns tokens stacks.new ≡ pop (Many item.Part) (columns tokens stacks.old) }
 {
-    take_or(&mut stacks.part_lists, Vec::new(alloc))
+    take_or(&mut stacks.held.part_lists, Vec::new(alloc))
 }
 
-pub fn put_parts(stacks: &mut Stacks, parts: Vec<Part>) -> Result<(), AllocError>
+pub fn put_parts(stacks: &mut Store, parts: Vec<Part>) -> Result<(), AllocError>
     ensures { OnOk result ((tokens : List Token) →
         columns tokens stacks.new
         ≡ push (Many item.Part) (held (part_view tokens) parts.items) (columns tokens stacks.old)) }
 {
-    put(&mut stacks.part_lists, parts)
+    put(&mut stacks.held.part_lists, parts)
 }
 
-pub fn take_branches(alloc: Global, stacks: &mut Stacks) -> Vec<Branch>
+pub fn take_branches(alloc: Global, stacks: &mut Store) -> Vec<Branch>
     ensures value { (tokens : List Token) →
         held (branch_view tokens) result.items ≡ top tokens (Many item.Branch) (columns tokens stacks.old) }
     ensures rest { (tokens : List Token) →
         columns tokens stacks.new ≡ pop (Many item.Branch) (columns tokens stacks.old) }
 {
-    take_or(&mut stacks.branch_lists, Vec::new(alloc))
+    take_or(&mut stacks.held.branch_lists, Vec::new(alloc))
 }
 
-pub fn put_branches(stacks: &mut Stacks, branches: Vec<Branch>) -> Result<(), AllocError>
-    ensures { OnOk result ((tokens : List Token) →
-        columns tokens stacks.new
-        ≡ push (Many item.Branch) (held (branch_view tokens) branches.items) (columns tokens stacks.old)) }
-{
-    put(&mut stacks.branch_lists, branches)
-}
-
-pub fn take_definitions(alloc: Global, stacks: &mut Stacks) -> Vec<Definition>
+pub fn take_definitions(alloc: Global, stacks: &mut Store) -> Vec<Definition>
     ensures value { (tokens : List Token) →
         held (definition_view tokens) result.items ≡ top tokens (Many item.Definition) (columns tokens stacks.old) }
     ensures rest { (tokens : List Token) →
         columns tokens stacks.new ≡ pop (Many item.Definition) (columns tokens stacks.old) }
 {
-    take_or(&mut stacks.definition_lists, Vec::new(alloc))
-}
-
-pub fn put_definitions(stacks: &mut Stacks, definitions: Vec<Definition>) -> Result<(), AllocError>
-    ensures { OnOk result ((tokens : List Token) →
-        columns tokens stacks.new
-        ≡ push (Many item.Definition) (held (definition_view tokens) definitions.items) (columns tokens stacks.old)) }
-{
-    put(&mut stacks.definition_lists, definitions)
+    take_or(&mut stacks.held.definition_lists, Vec::new(alloc))
 }

@@ -17,7 +17,7 @@ use Rattle.infer_order.specs.Order.{IsSimple, ordered}
 use Rattle.infer_parts.specs.Formed.{FormedGroups}
 use Rattle.infer_parts.specs.Steps.{CanWalk}
 use Rattle.infer.specs.Middle.{AnnotationsOnce, Starts}
-use Rattle.infer.specs.Modules.{CanInfer, root}
+use Rattle.infer.specs.Modules.{CanInfer, root, written_groups}
 use Rattle.infer.specs.Names.{AllTitled, EachOnce, names_of}
 use Rattle.infer.specs.Modules.{groups_in}
 use Rattle.infer.proofs.Grouping.{formed_once}
@@ -98,3 +98,12 @@ module _ (module_ : Module) (can : CanInfer module_) (gs : List Group)
 
 pub names_once : (module_ : Module) → CanInfer module_ → EachOnce (names_of (module_definitions module_))
 names_once module_ can = proper_once module_.declarations can.scope can.proper
+
+-- a module starts below the root, where no name is in scope
+pub started : (module_ : Module) (env : Known) → CanInfer module_ → (code : Code) (old new : State)
+    → code ≡ first_code code.known → ((m x : Name) → code.known m x ≡ known_in module_ env m x)
+    → old ≡ record { store = []; depth = 0; place = [] } → new ≡ record old { place = child old.place 0 }
+    → Starts module_ env (written_groups module_) code new
+started module_ env can code old new names known empty entered =
+    starts module_ env code.known (written_groups module_) (begins_defined module_ can (written_groups module_) refl)
+    known code new names (goes_down old new empty entered)

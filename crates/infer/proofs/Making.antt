@@ -1,7 +1,8 @@
 -- Types of constructors.
 use Rattle.std.proofs.Common.{◌≡◌, ℕ, zero, suc, ◌+◌, ◌≤◌, List, [], ◌∷◌, ◌++◌, Option, Some, None, map, take, length}
-use Rattle.std.proofs.Common.{refl}
+use Rattle.std.proofs.Common.{refl, flat_map, sym}
 use Rattle.std.proofs.Common.{ap, ◌∙◌, arith}
+use Rattle.std.proofs.lemmas.List.{append_assoc, flat_map_more, map-append}
 use Rattle.std.specs.Prelude.{slice_get}
 use Rattle.std.specs.List.{zip}
 use Rattle.elm_canon.specs.Unions.{alternatives}
@@ -13,7 +14,7 @@ use Rattle.elm_canon.specs.View as view
 use Rattle.elm_canon.specs.View.{function_type}
 use Rattle.type_items.specs.Modules.{Annotated, function_to, field_types, record_maker, union_type}
 use Rattle.type_items.specs.Modules.{union_makers}
-use Rattle.infer.specs.Known.{maker_at}
+use Rattle.infer.specs.Known.{Typed, as_scheme, maker_at}
 
 after_first : (t : plain.Annotation) (ts : List plain.Annotation) (made : plain.Annotation)
     → view.function_to t (ts ++ made ∷ []) ≡ plain.FunctionType t (function_to (annotations_of ts) made)
@@ -105,3 +106,21 @@ makers_all home u xs e =
     ap (makers_of (union_type home u)) (zip_all xs u.fields)
     ∙ (ap (λ l. makers_of (union_type home u) (zip l u.fields)) e
     ∙ by_names (union_type home u) (alternatives u.union) u.fields)
+
+-- ---- what is declared, one after another
+
+-- what one more declares comes last
+pub made_next : {X : Type 0} (f : X → List Annotated) (xs : List X) (x : X) (old : List Typed)
+    → (old ++ map as_scheme (flat_map f xs)) ++ map as_scheme (f x)
+    ≡ old ++ map as_scheme (flat_map f (xs ++ x ∷ []))
+made_next f xs x old =
+    append_assoc old (map as_scheme (flat_map f xs)) (map as_scheme (f x))
+    ∙ ap (λ l. old ++ l) (sym (map-append as_scheme (flat_map f xs) (f x))
+    ∙ ap (map as_scheme) (flat_map_more f [] xs x))
+
+pub listed_next : {X : Type 0} (f : X → Annotated) (xs : List X) (x : X) (old : List Typed)
+    → (old ++ map as_scheme (map f xs)) ++ as_scheme (f x) ∷ [] ≡ old ++ map as_scheme (map f (xs ++ x ∷ []))
+listed_next f xs x old =
+    append_assoc old (map as_scheme (map f xs)) (as_scheme (f x) ∷ [])
+    ∙ ap (λ l. old ++ l) (sym (map-append as_scheme (map f xs) (f x ∷ []))
+    ∙ ap (map as_scheme) (sym (map-append f xs (x ∷ []))))

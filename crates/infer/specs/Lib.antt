@@ -3,6 +3,7 @@ pub mod Names
 pub mod Told
 pub mod Middle
 pub mod Inside
+pub mod Texts
 pub mod Known
 pub mod Named
 pub mod Laws

@@ -20,6 +20,9 @@ abbrev pub groups_in : Declaration → List Group
 groups_in (Given x known) = []
 groups_in (Define g) = g ∷ []
 
+abbrev pub written_groups : Module → List Group
+written_groups module_ = flat_map groups_in module_.declarations
+
 -- Its declarations are proper in order, each record that it writes has its fields once, and each operation has its
 -- parts.
 pub record CanInfer (module_ : Module) : Type 0 where

@@ -86,16 +86,30 @@ pub fn module_types(alloc: Global, module: &Module) -> Result<ModuleTypes, Alloc
     table(alloc, found)
 }
 
+/// Adds the types of what the module `module` declares without a body to `known`. The error means that memory or
+/// numbers ran out.
+pub(crate) fn add_own_types(
+    alloc: Global,
+    module: &Module,
+    known: &mut Known,
+) -> Result<(), AllocError>
+    ensures { OnOk result ((m x : PlainName)
+        → known_view known.new m x ≡ known_in (module_view module.now) (known_view known.old) m x) }
+{
+    let types = module_types(alloc, module)?;
+    let home = module.name.clone()?;
+    known.insert(home, types)?;
+    Ok(())
+}
+
 /// Adds the types of what the module `module` declares without a body to those of the modules that it imports, `env`.
 /// The error means that memory or numbers ran out.
 pub fn with_own_types(alloc: Global, module: &Module, env: Known) -> Result<Known, AllocError>
     ensures { IfOk result (λ known. (m x : PlainName)
         → known_view known m x ≡ known_in (module_view module.now) (known_view env) m x) }
 {
-    let types = module_types(alloc, module)?;
-    let home = module.name.clone()?;
     let mut known = env;
-    known.insert(home, types)?;
+    add_own_types(alloc, module, &mut known)?;
     Ok(known)
 }
 

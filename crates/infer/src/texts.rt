@@ -1,7 +1,12 @@
 //! What is said of bad items, in UTF-16 units.
 
 ghost use Rattle.std.specs.Prelude.{◌≡◌, ◌++◌, ◌<◌, codes, length, IfOk, OnOk};
+ghost use Rattle.elm_type.specs.Parts.{IsPair};
+ghost use Rattle.elm_type.specs.Text.{leaf_name, text_in};
 ghost use Rattle.elm_type.specs.Used.{stem};
+ghost use Rattle.elm_type.specs.View.{scheme_view, type_view};
+ghost use Rattle.elm_type.specs.declared.frame.Around.TheVariants.{Alone};
+ghost use Rattle.infer.specs.Texts.{SaysParts};
 ghost use Rattle.type_constructs.specs.Texts.{SaysClass, SaysPair};
 ghost use Rattle.type_store.specs.Shape.{IsStore};
 
@@ -9,7 +14,8 @@ use elm_base::names::Name;
 use elm_type::class::Class;
 use elm_type::head::Head;
 use elm_type::naming::names_of;
-use elm_type::pairs::parts_of_pair;
+use elm_type::pairs::{Pair, parts_of_pair};
+use elm_type::scheme::Scheme;
 use elm_type::writing::write;
 use std::alloc::{AllocError, Global};
 use type_schemes::schemes::scheme;
@@ -57,6 +63,28 @@ pub fn class_text(
     Ok(text)
 }
 
+/// The text `LEFT /= RIGHT`, where variables have these names.
+fn parts_text(alloc: Global, parts: &Pair, names: &[Name]) -> Result<Vec<u16>, AllocError>
+    ensures { IfOk result (λ text. text.items ≡ text_in (leaf_name names.now) Alone (type_view parts.now.left)
+        ++ codes " /= " ++ text_in (leaf_name names.now) Alone (type_view parts.now.right)) }
+{
+    let mut text = write(alloc, &parts.left, names)?;
+    put(&mut text, b" /= ")?;
+    let right = write(alloc, &parts.right, names)?;
+    text.extend_from_slice(&right)?;
+    Ok(text)
+}
+
+/// The text `LEFT /= RIGHT`, of the scheme of their pair.
+fn scheme_text(alloc: Global, scheme: &Scheme) -> Result<Vec<u16>, AllocError>
+    requires { IsPair (type_view scheme.now.ty) }
+    ensures { IfOk result (λ text. SaysParts (scheme_view scheme.now) text.items) }
+{
+    let names = names_of(alloc, scheme)?;
+    let parts = parts_of_pair(alloc, &scheme.ty)?;
+    parts_text(alloc, &parts, &names)
+}
+
 /// The text `LEFT /= RIGHT`, of the types of two variables, with one name for each variable of both. A variable for
 /// their pair is made in the store.
 pub fn pair_text(
@@ -72,13 +100,7 @@ pub fn pair_text(
 {
     let pair = store.built(Head::Tuple, vec![in alloc; first, second]?, 0)?;
     let scheme = scheme(alloc, store, pair)?;
-    let names = names_of(alloc, &scheme)?;
-    let parts = parts_of_pair(alloc, &scheme.ty)?;
-    let mut text = write(alloc, &parts.left, &names)?;
-    put(&mut text, b" /= ")?;
-    let right = write(alloc, &parts.right, &names)?;
-    text.extend_from_slice(&right)?;
-    Ok(text)
+    scheme_text(alloc, &scheme)
 }
 
 /// The text `field NAME twice`.

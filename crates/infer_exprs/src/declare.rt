@@ -29,7 +29,7 @@ use infer_steps::state::State;
 use infer_types::asking::ask_around;
 use infer_types::declaring::declared;
 use std::alloc::{AllocError, Global};
-use type_schemes::written::{Written, written_scheme};
+use type_schemes::written::written_scheme;
 
 /// A name with an annotation, and its type.
 #[derive(Drop)]
@@ -55,12 +55,24 @@ fn read(
         (annotation_view annotation.now) (here state.old) (here state.new) (bad_view b) }
 {
     following_law();
-    let Written { names, scheme } = written_scheme(alloc, annotation)?;
-    match ask_around(state, scope, position, &names, &scheme.kinds) {
+    let written = written_scheme(alloc, annotation)?;
+    match ask_around(
+        state,
+        scope,
+        position,
+        &written.names,
+        &written.scheme.kinds,
+    ) {
         Ok(()) => {}
         Err(error) => return Err(error),
     }
-    let ty = declared(alloc, scope, &names, &scheme.kinds, &scheme.ty)?;
+    let ty = declared(
+        alloc,
+        scope,
+        &written.names,
+        &written.scheme.kinds,
+        &written.scheme.ty,
+    )?;
     Ok(ty)
 }
 

@@ -29,7 +29,7 @@ use infer_steps::state::State;
 use infer_types::fixing::fixed;
 use infer_types::own::{OwnVariable, own_variables};
 use std::alloc::{AllocError, Global};
-use type_schemes::written::{Written, written_scheme};
+use type_schemes::written::written_scheme;
 
 /// A definition with an annotation, which was entered.
 #[derive(Drop)]
@@ -85,21 +85,18 @@ pub fn enter_annotated(
 {
     opening_law();
     fixing_law();
-    let Written { names, scheme } = written_scheme(alloc, annotation)?;
-    let own = own_variables(alloc, scope, &names, &scheme.kinds)?;
-    let NamesAndKinds {
-        names: own_names,
-        kinds,
-    } = apart(alloc, own)?;
-    let inside = open_annotated(alloc, state, scope, own_names, &kinds, number)?;
+    let written = written_scheme(alloc, annotation)?;
+    let own = own_variables(alloc, scope, &written.names, &written.scheme.kinds)?;
+    let parts = apart(alloc, own)?;
+    let inside = open_annotated(alloc, state, scope, parts.names, &parts.kinds, number)?;
     match fixed(
         alloc,
         state,
         scope,
         position,
-        &names,
-        &scheme.kinds,
-        &scheme.ty,
+        &written.names,
+        &written.scheme.kinds,
+        &written.scheme.ty,
     ) {
         Ok(variable) => Ok(Begun { inside, variable }),
         Err(error) => Err(error),

@@ -11,7 +11,8 @@ ghost use Rattle.std.specs.List.{AllByRecursion};
 ghost use Rattle.elm_canon.specs.Tree as tree;
 ghost use Rattle.elm_canon.specs.Tree.{Apply, Strict, exprs_of, patterns_of, branches_of, groups_of};
 ghost use Rattle.elm_canon.specs.View.{expr_view, pattern_view, op_view, link_view, branch_view, group_view, linked};
-ghost use Rattle.elm_canon.specs.View.{done, accessed, annotation_view};
+ghost use Rattle.elm_canon.specs.View.{done, accessed, annotation_view, Composed, After, Before, Decided};
+ghost use Rattle.elm_canon.specs.declared.tree.Connective.{Connective};
 ghost use Rattle.type_items.specs.Items.{Wanted, child};
 ghost use Rattle.type_items.specs.Definitions.{Definition as PlainDefinition, type_groups, list_definitions};
 ghost use Rattle.type_items.specs.Expressions.{definitions, group_definitions};
@@ -566,38 +567,133 @@ fn open_link(
             Ok(inner)
         }
         Link::Composed(callee, _) => {
-            let variables = walk_callee(alloc, state, scope, callee, 2, position, wanted)?;
-            let inner = go_inside(state, 1, 0, variables, 1, kept)?;
-            Ok(inner)
+            open_composed(alloc, state, scope, callee, position, wanted, kept)
         }
         Link::After(op, parts) => {
-            let count = parts.len();
-            let variables = walk_parts(
-                alloc,
-                state,
-                scope,
-                op,
-                parts,
-                count + 1,
-                position,
-                wanted,
-            )?;
-            let inner = go_inside(state, 0, count, variables, count, kept)?;
-            Ok(inner)
+            open_after(alloc, state, scope, op, parts, position, wanted, kept)
         }
-        Link::Before(op, _) => {
-            let variables = begin_op(alloc, state, scope.known(), op, 2, position, wanted)?;
-            let inner = go_inside(state, 0, 0, variables, 0, kept)?;
-            Ok(inner)
-        }
-        Link::Decided(place, _, left) => {
-            let operands = begin_logical(alloc, state, *place, wanted)?;
-            walk_part(alloc, state, scope, left, position, 0, operands.left)?;
-            state.enter(1)?;
-            keep(kept, Vec::new(alloc))?;
-            Ok(operands.right)
-        }
+        Link::Before(op, _) => open_before(alloc, state, scope, op, position, wanted, kept),
+        Link::Decided(place, _, left) => open_decided(
+            alloc, state, scope, *place, left, position, wanted, kept,
+        ),
     }
+}
+
+/// The same as `open_link`, for a function of which the expression is the first of two arguments.
+#[cycle(inference)]
+fn open_composed(
+    alloc: Global,
+    state: &mut State,
+    scope: &mut Scope,
+    callee: &Expr,
+    position: Pos,
+    wanted: u32,
+    kept: &mut Vec<Vec<u32>>,
+) -> Result<u32, InferError>
+    requires can { CanWalk (code_of scope.old) (here state.old) }
+    requires formed { Formed (expr_view callee.now) }
+    requires wanted { Live (here state.old).depth (here state.old).store wanted }
+    ensures scope { OnOk result (code_of scope.new ≡ code_of scope.old) }
+    ensures opened { IfOk result (λ v. (x : tree.Expr) → OpensOne (code_of scope.old) position
+        (Composed (expr_view callee.now) x)
+        (map (λ vs. vs.items) kept.old.items) (map (λ vs. vs.items) kept.new.items) (here state.old) wanted
+        (here state.new) v) }
+    ensures stopped { (b : Bad) → result ≡ Err (error.Bad b) → (x : tree.Expr) → (e : tree.Expr)
+        → Stuck Wanted (code_of scope.old) (one wanted) below
+        (listed (done (Composed (expr_view callee.now) x) e) position) (here state.old) (here state.new) (bad_view b) }
+{
+    let variables = walk_callee(alloc, state, scope, callee, 2, position, wanted)?;
+    let inner = go_inside(state, 1, 0, variables, 1, kept)?;
+    Ok(inner)
+}
+
+/// The same as `open_link`, for an operation with all its parts but the last.
+#[cycle(inference)]
+fn open_after(
+    alloc: Global,
+    state: &mut State,
+    scope: &mut Scope,
+    op: &Op,
+    parts: &Vec<Expr>,
+    position: Pos,
+    wanted: u32,
+    kept: &mut Vec<Vec<u32>>,
+) -> Result<u32, InferError>
+    requires can { CanWalk (code_of scope.old) (here state.old) }
+    requires formed { FormedLink (After (op_view op.now) (map expr_view parts.now.items)) }
+    requires wanted { Live (here state.old).depth (here state.old).store wanted }
+    ensures scope { OnOk result (code_of scope.new ≡ code_of scope.old) }
+    ensures opened { IfOk result (λ v. OpensOne (code_of scope.old) position
+        (After (op_view op.now) (map expr_view parts.now.items))
+        (map (λ vs. vs.items) kept.old.items) (map (λ vs. vs.items) kept.new.items) (here state.old) wanted
+        (here state.new) v) }
+    ensures stopped { (b : Bad) → result ≡ Err (error.Bad b) → (e : tree.Expr) → Stuck Wanted (code_of scope.old)
+        (one wanted) below (listed (done (After (op_view op.now) (map expr_view parts.now.items)) e) position)
+        (here state.old) (here state.new) (bad_view b) }
+{
+    let count = parts.len();
+    let variables = walk_parts(alloc, state, scope, op, parts, count + 1, position, wanted)?;
+    let inner = go_inside(state, 0, count, variables, count, kept)?;
+    Ok(inner)
+}
+
+/// The same as `open_link`, for an operation of which the expression is the first of two parts.
+fn open_before(
+    alloc: Global,
+    state: &mut State,
+    scope: &mut Scope,
+    op: &Op,
+    position: Pos,
+    wanted: u32,
+    kept: &mut Vec<Vec<u32>>,
+) -> Result<u32, InferError>
+    requires can { CanWalk (code_of scope.old) (here state.old) }
+    requires formed { FormedOp (op_view op.now) 2 }
+    requires wanted { Live (here state.old).depth (here state.old).store wanted }
+    ensures scope { OnOk result (code_of scope.new ≡ code_of scope.old) }
+    ensures opened { IfOk result (λ v. (x : tree.Expr) → OpensOne (code_of scope.old) position
+        (Before (op_view op.now) x)
+        (map (λ vs. vs.items) kept.old.items) (map (λ vs. vs.items) kept.new.items) (here state.old) wanted
+        (here state.new) v) }
+    ensures stopped { (b : Bad) → result ≡ Err (error.Bad b) → (x : tree.Expr) → (e : tree.Expr)
+        → Stuck Wanted (code_of scope.old) (one wanted) below (listed (done (Before (op_view op.now) x) e) position)
+        (here state.old) (here state.new) (bad_view b) }
+{
+    let variables = begin_op(alloc, state, scope.known(), op, 2, position, wanted)?;
+    let inner = go_inside(state, 0, 0, variables, 0, kept)?;
+    Ok(inner)
+}
+
+/// The same as `open_link`, for `&&` or `||` at `place`, after its left side.
+#[cycle(inference)]
+fn open_decided(
+    alloc: Global,
+    state: &mut State,
+    scope: &mut Scope,
+    place: Pos,
+    left: &Expr,
+    position: Pos,
+    wanted: u32,
+    kept: &mut Vec<Vec<u32>>,
+) -> Result<u32, InferError>
+    requires can { CanWalk (code_of scope.old) (here state.old) }
+    requires formed { Formed (expr_view left.now) }
+    requires wanted { Live (here state.old).depth (here state.old).store wanted }
+    ensures scope { OnOk result (code_of scope.new ≡ code_of scope.old) }
+    ensures opened { IfOk result (λ v. (x : Connective) → OpensOne (code_of scope.old) position
+        (Decided place x (expr_view left.now))
+        (map (λ vs. vs.items) kept.old.items) (map (λ vs. vs.items) kept.new.items) (here state.old) wanted
+        (here state.new) v) }
+    ensures stopped { (b : Bad) → result ≡ Err (error.Bad b) → (x : Connective) → (e : tree.Expr)
+        → Stuck Wanted (code_of scope.old) (one wanted) below
+        (listed (done (Decided place x (expr_view left.now)) e) position) (here state.old) (here state.new)
+        (bad_view b) }
+{
+    let operands = begin_logical(alloc, state, place, wanted)?;
+    walk_part(alloc, state, scope, left, position, 0, operands.left)?;
+    state.enter(1)?;
+    keep(kept, Vec::new(alloc))?;
+    Ok(operands.right)
 }
 
 /// Goes back from the place of an expression with which this is done, and infers what stands after the expression.

@@ -1,8 +1,10 @@
 //! The names in scope.
 
-ghost use Rattle.std.specs.Prelude.{◌≡◌, None, [], ◌∷◌, option_map, IfOk, OnOk};
-ghost use Rattle.elm_canon.specs.declared.reference.Ref.TheVariants as ref;
+ghost use Rattle.std.specs.Prelude.{◌≡◌, None, [], ◌∷◌, option_map, IfOk, OnOk, if◌then◌else◌};
+ghost use Rattle.indexmap.specs.IndexMap.{get};
+ghost use Rattle.elm_canon.specs.Names.{same_name, Name as PlainName};
 ghost use Rattle.infer_steps.specs.Codes.{stands_for, with_meaning, constant_is, with_constant};
+ghost use Rattle.infer_steps.specs.Keys.{same_pair};
 ghost use Rattle.infer_steps.specs.View.{known_view, meaning_view, code_of};
 ghost use Rattle.infer_steps.specs.Leaving.{without, without_constant};
 
@@ -67,6 +69,65 @@ fn copy_name(name: &Ref) -> Result<Ref, AllocError>
     }
 }
 
+/// Lets a name stand for a value, or for nothing, and returns what it stood for. The error means that memory ran out.
+fn exchange<V: Drop>(
+    names: &mut IndexMap<Name, V>,
+    name: &Name,
+    value: Option<V>,
+) -> Result<Option<V>, AllocError>
+    ensures put { OnOk result ((n : PlainName) → get same_name names.new n
+        ≡ (if same_name name.now n then value else get same_name names.old n)) }
+    ensures outer { IfOk result (λ o. o ≡ get same_name names.old name.now) }
+{
+    match value {
+        Some(new) => {
+            let key = name.clone()?;
+            let outer = names.insert(key, new)?;
+            Ok(outer)
+        }
+        None => {
+            let outer = names.swap_remove(name);
+            Ok(outer)
+        }
+    }
+}
+
+/// The same for the name `name` of the module `home`.
+fn exchange_top<V: Drop>(
+    names: &mut IndexMap<(Name, Name), V>,
+    home: &Name,
+    name: &Name,
+    value: Option<V>,
+) -> Result<Option<V>, AllocError>
+    ensures put { OnOk result ((n : PlainName × PlainName) → get same_pair names.new n
+        ≡ (if same_pair (home.now, name.now) n then value else get same_pair names.old n)) }
+    ensures outer { IfOk result (λ o. o ≡ get same_pair names.old (home.now, name.now)) }
+{
+    let key = (home.clone()?, name.clone()?);
+    match value {
+        Some(new) => {
+            let outer = names.insert(key, new)?;
+            Ok(outer)
+        }
+        None => {
+            let outer = names.swap_remove(&key);
+            Ok(outer)
+        }
+    }
+}
+
+/// What the name `name` of the module `home` stands for. None: nothing. The error means that memory ran out.
+fn find_top<'m, V>(
+    names: &'m IndexMap<(Name, Name), V>,
+    home: &Name,
+    name: &Name,
+) -> Result<Option<&'m V>, AllocError>
+    ensures { IfOk result (λ v. option_map (λ x. x.now) v ≡ get same_pair names.now (home.now, name.now)) }
+{
+    let key = (home.clone()?, name.clone()?);
+    Ok(names.get(&key))
+}
+
 impl Scope {
     /// A scope without names, where this is declared elsewhere.
     #[tactic(auto, unfolding(crate::specs::View::names_of, crate::specs::View::constants_of))]
@@ -95,10 +156,7 @@ impl Scope {
     {
         match name {
             Ref::Local(local) => Ok(self.locals.get(local)),
-            Ref::Top(home, top) => {
-                let key = (home.clone()?, top.clone()?);
-                Ok(self.tops.get(&key))
-            }
+            Ref::Top(home, top) => find_top(&self.tops, home, top),
         }
     }
 
@@ -110,54 +168,6 @@ impl Scope {
         self.constants.get(name).copied()
     }
 
-    /// Lets a local name stand for `meaning`, or for nothing, and returns what it stood for.
-    fn set_local(
-        &mut self,
-        name: &Name,
-        meaning: Option<Meaning>,
-    ) -> Result<Option<Meaning>, AllocError>
-        ensures scope { OnOk result (code_of self.new ≡ stands_for (ref.Local name.now)
-            (option_map meaning_view meaning) (code_of self.old)) }
-        ensures outer { IfOk result (λ o. option_map meaning_view o ≡ (code_of self.old).names (ref.Local name.now)) }
-    {
-        match meaning {
-            Some(new) => {
-                let key = name.clone()?;
-                let outer = self.locals.insert(key, new)?;
-                Ok(outer)
-            }
-            None => {
-                let outer = self.locals.swap_remove(name);
-                Ok(outer)
-            }
-        }
-    }
-
-    /// Lets a name of a module stand for `meaning`, or for nothing, and returns what it stood for.
-    fn set_top(
-        &mut self,
-        home: &Name,
-        name: &Name,
-        meaning: Option<Meaning>,
-    ) -> Result<Option<Meaning>, AllocError>
-        ensures scope { OnOk result (code_of self.new ≡ stands_for (ref.Top home.now name.now)
-            (option_map meaning_view meaning) (code_of self.old)) }
-        ensures outer { IfOk result (λ o. option_map meaning_view o
-            ≡ (code_of self.old).names (ref.Top home.now name.now)) }
-    {
-        let key = (home.clone()?, name.clone()?);
-        match meaning {
-            Some(new) => {
-                let outer = self.tops.insert(key, new)?;
-                Ok(outer)
-            }
-            None => {
-                let outer = self.tops.swap_remove(&key);
-                Ok(outer)
-            }
-        }
-    }
-
     /// Lets a name stand for `meaning`, or for nothing, and returns what it stood for.
     fn set(&mut self, name: &Ref, meaning: Option<Meaning>) -> Result<Option<Meaning>, AllocError>
         ensures scope { OnOk result (code_of self.new ≡ stands_for name.now (option_map meaning_view meaning)
@@ -165,8 +175,8 @@ impl Scope {
         ensures outer { IfOk result (λ o. option_map meaning_view o ≡ (code_of self.old).names name.now) }
     {
         match name {
-            Ref::Local(local) => self.set_local(local, meaning),
-            Ref::Top(home, top) => self.set_top(home, top, meaning),
+            Ref::Local(local) => exchange(&mut self.locals, local, meaning),
+            Ref::Top(home, top) => exchange_top(&mut self.tops, home, top, meaning),
         }
     }
 
@@ -211,17 +221,7 @@ impl Scope {
         ensures scope { OnOk result (code_of self.new ≡ constant_is name.now variable (code_of self.old)) }
         ensures outer { IfOk result (λ o. o ≡ (code_of self.old).constants name.now) }
     {
-        match variable {
-            Some(new) => {
-                let key = name.clone()?;
-                let outer = self.constants.insert(key, new)?;
-                Ok(outer)
-            }
-            None => {
-                let outer = self.constants.swap_remove(name);
-                Ok(outer)
-            }
-        }
+        exchange(&mut self.constants, name, variable)
     }
 
     /// Lets the variable `name` of an annotation stand for the variable `variable` of the store. The result is for

@@ -22,3 +22,5 @@ pub mod Made
 pub mod FragmentsView
 -- where ports are declared
 pub mod Found
+-- ports by their names
+pub mod Named

@@ -1,9 +1,10 @@
 //! The faults of a link.
 
 ghost use Rattle.std.specs.Prelude.{◌≡◌, ◌++◌, ◌∷◌, [], List, map, option_map, string_bytes, IfOk, OnOk};
+ghost use Rattle.elm_base.specs.declared.fault.Code.TheVariants.{PortClash};
 ghost use Rattle.elm_canon.specs.Names.{Name as PlainName};
 ghost use Rattle.elm_type.specs.Text.{utf8};
-ghost use Rattle.link.specs.FragmentsView.{main_view, port_view};
+ghost use Rattle.link.specs.FragmentsView.{main_view};
 ghost use Rattle.link.specs.Kept.{IsHomes};
 ghost use Rattle.link.specs.Link as spec;
 ghost use Rattle.link.specs.Link.{fault_at, main_faults, clash_at, with_port, clashes, link_faults, is_other};
@@ -41,6 +42,23 @@ fn fault_at(
     })
 }
 
+/// Adds a fault at a place of the file of the path `path`.
+fn push_fault(
+    alloc: Global,
+    code: Code,
+    path: &String,
+    place: Pos,
+    detail: &[u8],
+    faults: &mut Vec<Fault>,
+) -> Result<(), AllocError>
+    ensures { OnOk result (faults.new.items
+        ≡ faults.old.items ++ spec.fault_at code (string_bytes path.now) place detail.now ∷ []) }
+{
+    let fault = fault_at(alloc, code, path, place, detail)?;
+    faults.push(fault)?;
+    Ok(())
+}
+
 /// Adds the fault of the type of a `main`, if it has one.
 fn push_type_fault(
     alloc: Global,
@@ -52,15 +70,10 @@ fn push_type_fault(
         ≡ faults.old.items ++ spec.says_faults (string_bytes path.now) main.now.place (main_view main.now).says) }
 {
     match &main.says {
-        Says::Program(_) => {}
-        Says::BadFlags(text) => {
-            faults.push(fault_at(alloc, Code::MainFlags, path, main.place, text)?)?;
-        }
-        Says::NoProgram(text) => {
-            faults.push(fault_at(alloc, Code::MainType, path, main.place, text)?)?;
-        }
+        Says::Program(_) => Ok(()),
+        Says::BadFlags(text) => push_fault(alloc, Code::MainFlags, path, main.place, text, faults),
+        Says::NoProgram(text) => push_fault(alloc, Code::MainType, path, main.place, text, faults),
     }
-    Ok(())
 }
 
 /// Adds the fault of the `main` of the entry, if it has one.
@@ -77,8 +90,7 @@ fn push_main_fault(
         Some(main) => push_type_fault(alloc, path, main, faults),
         None => {
             let start = Pos { row: 1, column: 1 };
-            faults.push(fault_at(alloc, Code::MainType, path, start, b"missing")?)?;
-            Ok(())
+            push_fault(alloc, Code::MainType, path, start, b"missing", faults)
         }
     }
 }
@@ -115,6 +127,20 @@ fn name_text(alloc: Global, name: &Name) -> Result<Vec<u8>, AllocError>
     Ok(text.into_bytes())
 }
 
+/// Adds the fault of a port of a file of the path `path`, whose name another module has before it.
+fn push_port_fault(
+    alloc: Global,
+    path: &String,
+    port: &Port,
+    faults: &mut Vec<Fault>,
+) -> Result<(), AllocError>
+    ensures { OnOk result (faults.new.items ≡ faults.old.items
+        ++ spec.fault_at PortClash (string_bytes path.now) port.now.place (utf8 port.now.name) ∷ []) }
+{
+    let detail = name_text(alloc, &port.name)?;
+    push_fault(alloc, Code::PortClash, path, port.place, &detail, faults)
+}
+
 /// Adds the fault of a port whose name another module has before it.
 fn push_clash(
     alloc: Global,
@@ -132,8 +158,7 @@ fn push_clash(
     match &piece.port {
         Some(port) => {
             if homes.is_taken(placed.name, &port.name)? {
-                let detail = name_text(alloc, &port.name)?;
-                faults.push(fault_at(alloc, Code::PortClash, placed.path, port.place, &detail)?)?;
+                push_port_fault(alloc, placed.path, port, faults)?;
             }
             Ok(())
         }

@@ -1,6 +1,6 @@
 //! Where ports and values are declared.
 
-ghost use Rattle.std.specs.Prelude.{◌≡◌, List, map, flat_map, IfOk};
+ghost use Rattle.std.specs.Prelude.{◌≡◌, ◌∷◌, [], List, map, flat_map, IfOk};
 ghost use Rattle.elm_canon.specs.Tree.{functions_of, PortDeclaration as PlainPort};
 ghost use Rattle.elm_canon.specs.View.{declaration_view, function_view, group_view, port_declaration_view};
 ghost use Rattle.link.specs.Made as spec;
@@ -10,7 +10,7 @@ ghost use Rattle.link.specs.Found.{IsPlaces};
 use elm_base::names::Name;
 use elm_base::position::Pos;
 use elm_canon::reference::{Ref, same_ref};
-use elm_canon::tree::{Declaration, Function, Group, Known, PortDeclaration};
+use elm_canon::tree::{Declaration, Function, Group, Known, PortDeclaration, Title};
 use indexmap::IndexMap;
 use std::alloc::{AllocError, Global};
 
@@ -59,20 +59,44 @@ fn place_in_functions(functions: &[Function], name: &Ref) -> Option<Pos>
     None
 }
 
+/// The same of all functions of a group.
+fn place_in_all(functions: &Vec<Function>, name: &Ref) -> Option<Pos>
+    ensures { result ≡ place_in name.now (titled (functions_of (map function_view functions.now.items))) }
+{
+    place_in_functions(functions, name)
+}
+
+/// Where a title stands, if it is that of the value `name`.
+fn place_in_title(title: &Title, name: &Ref) -> Option<Pos>
+    ensures { result ≡ place_in name.now ((title.now.name, title.now.place) ∷ []) }
+{
+    if same_ref(&title.name, name) {
+        Some(title.place)
+    } else {
+        None
+    }
+}
+
 /// Where a group defines the value `name`, if it does.
 fn place_in_group(group: &Group, name: &Ref) -> Option<Pos>
     ensures { result ≡ place_in name.now (group_values (group_view group.now)) }
 {
     match group {
-        Group::Together(functions) => place_in_functions(functions, name),
-        Group::Constant(title, _) => {
-            if same_ref(&title.name, name) {
-                Some(title.place)
-            } else {
-                None
-            }
-        }
+        Group::Together(functions) => place_in_all(functions, name),
+        Group::Constant(title, _) => place_in_title(title, name),
         Group::Destructure(_, _) => None,
+    }
+}
+
+/// Where the port `port` is declared, which is the value `given`, if that is the value `name`.
+fn place_in_port(places: &Places, given: &Ref, port: &Name, name: &Ref) -> Option<Pos>
+    ensures { (ports : List PlainPort) → IsPlaces places.now ports
+        → result ≡ place_in name.now ((given.now, spec.port_place ports port.now) ∷ []) }
+{
+    if same_ref(given, name) {
+        Some(places.find(port))
+    } else {
+        None
     }
 }
 
@@ -83,11 +107,7 @@ fn place_in_declaration(places: &Places, declaration: &Declaration, name: &Ref) 
 {
     match declaration {
         Declaration::Given(given, Known::OutPort(port, _) | Known::InPort(port, _)) => {
-            if same_ref(given, name) {
-                Some(places.find(port))
-            } else {
-                None
-            }
+            place_in_port(places, given, port, name)
         }
         Declaration::Given(_, Known::Maker(_) | Known::RecordMaker(_)) => None,
         Declaration::Define(group) => place_in_group(group, name),

@@ -8,6 +8,7 @@ pub mod laws;
 mod linking;
 pub mod making;
 mod names;
+mod outcomes;
 mod output;
 pub mod part;
 mod pieces;

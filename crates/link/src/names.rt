@@ -14,6 +14,15 @@ use elm_canon::tree::{Declaration, Function, Group};
 use indexmap::IndexSet;
 use std::alloc::{AllocError, Global};
 
+/// The name of a value of a module.
+pub(crate) fn pair_of(home: &Name, name: &Name) -> Result<(Name, Name), AllocError>
+    ensures { IfOk result (λ pair. pair ≡ (home.now, name.now)) }
+{
+    let home = home.clone()?;
+    let name = name.clone()?;
+    Ok((home, name))
+}
+
 /// Adds a name, if it is one of a module.
 pub(crate) fn push_name(name: &Ref, names: &mut Vec<(Name, Name)>) -> Result<(), AllocError>
     ensures { OnOk result (names.new.items ≡ names.old.items ++ top_names (name.now ∷ [])) }
@@ -21,7 +30,7 @@ pub(crate) fn push_name(name: &Ref, names: &mut Vec<(Name, Name)>) -> Result<(),
     match name {
         Ref::Local(_) => Ok(()),
         Ref::Top(home, name) => {
-            names.push((home.clone()?, name.clone()?))?;
+            names.push(pair_of(home, name)?)?;
             Ok(())
         }
     }
@@ -41,12 +50,23 @@ fn push_function_names(
     Ok(())
 }
 
+/// The same of all functions of a group.
+fn push_all_names(
+    functions: &Vec<Function>,
+    names: &mut Vec<(Name, Name)>,
+) -> Result<(), AllocError>
+    ensures { OnOk result (names.new.items ≡ names.old.items
+        ++ top_names (function_names (functions_of (map function_view functions.now.items)))) }
+{
+    push_function_names(functions, names)
+}
+
 /// Adds the names of modules that a group defines.
 fn push_group_names(group: &Group, names: &mut Vec<(Name, Name)>) -> Result<(), AllocError>
     ensures { OnOk result (names.new.items ≡ names.old.items ++ top_names (group_names (group_view group.now))) }
 {
     match group {
-        Group::Together(functions) => push_function_names(functions, names),
+        Group::Together(functions) => push_all_names(functions, names),
         Group::Constant(title, _) => push_name(&title.name, names),
         Group::Destructure(_, _) => Ok(()),
     }
@@ -73,7 +93,7 @@ fn copy_names(alloc: Global, names: &[(Name, Name)]) -> Result<Vec<(Name, Name)>
 {
     let mut copies = Vec::with_capacity(alloc, names.len())?;
     for (home, name) in names {
-        copies.push((home.clone()?, name.clone()?))?;
+        copies.push(pair_of(home, name)?)?;
     }
     Ok(copies)
 }
@@ -85,7 +105,7 @@ fn note(seen: &mut IndexSet<(Name, Name)>, name: &Ref) -> Result<(), AllocError>
     match name {
         Ref::Local(_) => Ok(()),
         Ref::Top(home, name) => {
-            seen.insert((home.clone()?, name.clone()?))?;
+            seen.insert(pair_of(home, name)?)?;
             Ok(())
         }
     }

@@ -8,6 +8,7 @@ ghost use Rattle.link.specs.Kept.{Numbered};
 ghost use Rattle.link.specs.Reached.{place_of, places_used};
 ghost use Rattle.link.specs.View.{placed_view};
 
+use crate::names::pair_of;
 use crate::pieces::Placed;
 use elm_base::names::Name;
 use indexmap::IndexMap;
@@ -28,7 +29,7 @@ impl Places {
         if self.by_name.contains_key(name) {
             return Ok(());
         }
-        let key = (name.0.clone()?, name.1.clone()?);
+        let key = pair_of(&name.0, &name.1)?;
         self.by_name.insert(key, place)?;
         Ok(())
     }

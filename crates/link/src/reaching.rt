@@ -5,7 +5,7 @@ ghost use Rattle.std.specs.Prelude.{IfSome, Bool};
 ghost use Rattle.std.specs.List.{All, range_with_len};
 ghost use Rattle.decl_groups.specs.Groups.{plain};
 ghost use Rattle.link.specs.Link.{reached_pieces};
-ghost use Rattle.link.specs.Reached.{reaches_from, kept, reached as plain_reached};
+ghost use Rattle.link.specs.Reached.{is_reached, reaches_from, kept, reached as plain_reached};
 ghost use Rattle.link.specs.View.{part_view, placed_view};
 
 use crate::part::Part;
@@ -79,6 +79,23 @@ fn marked<'a>(
     Ok(found)
 }
 
+/// Which of the pieces are reached from the one that declares the name `start`.
+fn marks_of(
+    alloc: Global,
+    pieces: &[Placed<'_>],
+    start: &(Name, Name),
+) -> Result<Vec<bool>, AllocError>
+    ensures { IfOk result (λ marks. marks.items
+        ≡ map (is_reached (map (λ d. d.piece.names) (map placed_view pieces.now))
+        (map (λ d. d.piece.uses) (map placed_view pieces.now)) start.now) (range_with_len 0 (length pieces.now))) }
+{
+    let places = Places::of(alloc, pieces)?;
+    let uses = places.all_used(alloc, pieces)?;
+    let place = places.find(start);
+    let marks = marks_from(alloc, &uses, place)?;
+    Ok(marks)
+}
+
 /// Those of the pieces that are reached from the one that declares the name `start`, in order.
 fn reached_among<'a>(
     alloc: Global,
@@ -88,10 +105,7 @@ fn reached_among<'a>(
     ensures { IfOk result (λ v. map placed_view v.items
         ≡ plain_reached (λ d. d.piece.names) (λ d. d.piece.uses) start.now (map placed_view pieces.now)) }
 {
-    let places = Places::of(alloc, pieces)?;
-    let uses = places.all_used(alloc, pieces)?;
-    let place = places.find(start);
-    let marks = marks_from(alloc, &uses, place)?;
+    let marks = marks_of(alloc, pieces, start)?;
     let found = marked(alloc, pieces, &marks)?;
     Ok(found)
 }

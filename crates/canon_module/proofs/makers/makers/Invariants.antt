@@ -6,8 +6,8 @@ use Rattle.elm_canon.specs.View.{declaration_view}
 use Rattle.canon_module.specs.Resolve.{makers_in}
 use Rattle.canon_module.proofs.makers.makers.Given as goal
 
-abbrev pub invariant-loop-declaration : goal.invariant-loop-declaration
-invariant-loop-declaration l =
+abbrev pub invariant-loop-number : goal.invariant-loop-number
+invariant-loop-number l =
     map declaration_view l.makers.items
     ≡ flat_map (makers_in l.home)
-    (map (tree_view.declaration_view (tokens_view l.tokens)) (take l.declaration-index l.declarations))
+    (map (tree_view.declaration_view (tokens_view l.tokens)) (take l.number l.declarations))

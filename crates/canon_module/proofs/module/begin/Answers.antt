@@ -22,9 +22,9 @@ returns c =
     let rows = imported_rows s.imports in
     let shown = shown_view c.in_ok-declared.declared.value.shown in
     let w = module_world s.home rows shown in
-    let ds = map view c.as_slice-declarations.result.now in
+    let ds = map view c.of-declarations.result in
     let header = option_map (tree_view.header_view t) c.args.parsed.now.head.header in
-    let all = c.as_slice-declarations.ensures.value in
+    let all = c.of-declarations.ensures in
     record {
       values =
           c.in_ok-declared.ensures.values ∙ ap (λ (n : Names). map name_of n.values) (c.in_ok-names.ensures t)

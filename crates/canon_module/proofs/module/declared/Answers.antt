@@ -1,30 +1,40 @@
--- What is imported is what the rows of the imports say, and a box keeps what is put into it.
-use Rattle.std.proofs.Common.{map, sym, subst}
-use Rattle.elm_tree.specs.View as tree_view
+-- What is imported is what the rows of the imports say.
+use Rattle.std.proofs.Common.{map, ap, ◌∙◌}
+use Rattle.std.proofs.lemmas.Result.{IfOk-weaker}
+use Rattle.elm_tree.specs.View.{words_view}
 use Rattle.elm_tree.specs.Turns.{tokens_view}
 use Rattle.canon_env.specs.Env.{imported_rows, known_view}
-use Rattle.canon_env.specs.Shown.{shown_view}
-use Rattle.canon_env.specs.Naming.{IsWorld}
-use Rattle.canon_type.specs.DeclaredTypes.{module_world, AreDeclared, AreAll}
-use Rattle.canon_type.specs.declared.declaring.Declared.{Declared}
+use Rattle.canon_env.specs.Imports.{name_of}
 use Rattle.canon_module.proofs.module.declared.Goals as goal
+
+pub returns-clause-values : goal.returns-clause-values
+returns-clause-values c =
+    IfOk-weaker c.types_of.result _ _
+    (λ d told.
+    told ∙ c.in_ok-values.ensures
+    ∙ ap (λ ws. map name_of (words_view (tokens_view c.args.tokens.now) ws)) c.deref.ensures.value)
+    c.types_of.ensures.values
 
 pub returns-clause-types : goal.returns-clause-types
 returns-clause-types c =
-    let rows = imported_rows (map known_view c.args.setting.now.imports.now) in
-    let ds = map (tree_view.declaration_view (tokens_view c.args.tokens.now)) c.args.declarations.now in
-    subst (λ (d : Declared). AreDeclared c.args.setting.now.home.now rows ds (shown_view d.shown))
-    (sym c.in_ok-new.ensures.ok) (c.in_ok-declared.ensures.types rows c.in_ok-imported.ensures)
+    IfOk-weaker c.types_of.result _ _
+    (λ d told. told (imported_rows (map known_view c.args.setting.now.imports.now)) c.in_ok-imported.ensures)
+    c.types_of.ensures.types
 
 pub returns-clause-all : goal.returns-clause-all
 returns-clause-all c =
-    let rows = imported_rows (map known_view c.args.setting.now.imports.now) in
-    let ds = map (tree_view.declaration_view (tokens_view c.args.tokens.now)) c.args.declarations.now in
-    subst (λ (d : Declared). AreAll c.args.setting.now.home.now rows ds (shown_view d.shown))
-    (sym c.in_ok-new.ensures.ok) (c.in_ok-declared.ensures.all rows c.in_ok-imported.ensures)
+    IfOk-weaker c.types_of.result _ _
+    (λ d told. told (imported_rows (map known_view c.args.setting.now.imports.now)) c.in_ok-imported.ensures)
+    c.types_of.ensures.all
 
 pub returns-clause-world : goal.returns-clause-world
 returns-clause-world c =
-    let rows = imported_rows (map known_view c.args.setting.now.imports.now) in
-    subst (λ (d : Declared). IsWorld d.world (module_world c.args.setting.now.home.now rows (shown_view d.shown)))
-    (sym c.in_ok-new.ensures.ok) (c.in_ok-declared.ensures.world rows c.in_ok-imported.ensures)
+    IfOk-weaker c.types_of.result _ _
+    (λ d told. told (imported_rows (map known_view c.args.setting.now.imports.now)) c.in_ok-imported.ensures)
+    c.types_of.ensures.world
+
+pub returns-clause-faults : goal.returns-clause-faults
+returns-clause-faults c =
+    IfOk-weaker c.types_of.result _ _
+    (λ d told. told (imported_rows (map known_view c.args.setting.now.imports.now)) c.in_ok-imported.ensures)
+    c.types_of.ensures.faults

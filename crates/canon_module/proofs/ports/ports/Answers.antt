@@ -7,9 +7,9 @@ use Rattle.canon_type.proofs.Fillings.{bad_next}
 use Rattle.canon_module.specs.Resolve.{ports_in}
 use Rattle.canon_module.proofs.ports.ports.Goals as goal
 
-pub loop-declaration-preserved : goal.loop-declaration-preserved
-loop-declaration-preserved c = λ w h.
+pub loop-number-preserved : goal.loop-number-preserved
+loop-number-preserved c = λ w h.
     bad_next (ports_in w) (declaration_view (tokens_view c.args.tokens.now)) c.args.declarations.now
-    c.loop-declaration.declaration-index c.declaration-item.result [] (map port_declaration_view c.loop-declaration.ports.items)
-    (map port_declaration_view c.push_port.new.ports.items) (omega arith) c.declaration-item.is
-    (c.loop-declaration.invariant w h) (c.in_ok-push_port.ensures w h)
+    c.loop-number.number c.at-declaration.result [] (map port_declaration_view c.loop-number.ports.items)
+    (map port_declaration_view c.push_port.new.ports.items) (omega arith) c.at-declaration.ensures
+    (c.loop-number.invariant w h) (c.in_ok-push_port.ensures w h)

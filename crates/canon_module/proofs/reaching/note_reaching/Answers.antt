@@ -20,7 +20,7 @@ loop-number-preserved c = λ w uses o many.
     let view = declaration_view (tokens_view c.args.tokens.now) in
     let ds = c.args.declarations.now in
     let i = c.loop-number.number in
-    let d = c.index-declarations-number.result in
+    let d = c.at-declaration.result in
     let before = map defined_top (map view (take i ds)) in
     let within : i < length ds = omega arith in
     let mark : c.index.result.now ≡ uses_itself uses i =
@@ -30,7 +30,7 @@ loop-number-preserved c = λ w uses o many.
     let count : length before ≡ i =
     length-map (map view (take i ds)) defined_top ∙ length-map (take i ds) view ∙ length-take-le i ds (omega arith) in
     subst (λ sites. Grows w c.args.log.now c.note_one.new.log sites)
-    (sym (ap (reaching_sites uses) (map_map_next defined_top view ds i d within c.index-declarations-number.is)
+    (sym (ap (reaching_sites uses) (map_map_next defined_top view ds i d within c.at-declaration.ensures)
     ∙ reaching_next uses before (defined_top (view d)) i count))
     (grows_more (c.loop-number.invariant w uses o many)
     (subst (λ b. Grows w c.loop-number.log c.note_one.new.log (Reaching b (defined_top (view d)) ∷ [])) mark

@@ -12,19 +12,26 @@ use Rattle.canon_env.specs.Locals.{no_locals}
 use Rattle.canon_env.specs.Sites.{faults_at}
 use Rattle.canon_expr.specs.Exprs.{annotation_of, definition_sites}
 use Rattle.canon_module.specs.Items.{ValueItem, top_made}
+use Rattle.canon_module.proofs.Outcome.{anyway, if_done, on_done}
 use Rattle.canon_module.proofs.walk.definition.Goals as goal
 
-pub returns-in_ok-annotate-in-Annotate : goal.returns-in_ok-annotate-in-Annotate
-returns-in_ok-annotate-in-Annotate c =
+pub returns-in-Annotate : goal.returns-in-Annotate
+returns-in-Annotate c =
     let tokens = tokens_view c.args.tokens.now in
     let whole = ap (definition_view tokens) c.in-Annotate.is
     ∙ views.annotate_definition tokens c.in-Annotate.field-0 c.in-Annotate.annotated in
     record {
-      meaning = λ w is named. ap (λ d. ValueItem (top_made w (option_map annotation_view c.args.before.now) d)) (sym whole);
-      faults = λ w is.
-          c.in_ok-annotate-in-Annotate.ensures.faults w is
-          ∙ ap (λ d. c.args.log.now.findings.items ++ flat_map (faults_at w) (definition_sites w no_locals d)) (sym whole);
-      before = λ w is. c.in_ok-annotate-in-Annotate.ensures.meaning w is ∙ sym (ap (annotation_of w) whole);
+      meaning = if_done c.when_done.result c.annotate.result _ _ c.when_done.ensures
+          (λ w is named. ap (λ d. ValueItem (top_made w (option_map annotation_view c.args.before.now) d)) (sym whole));
+      faults = on_done _ c.when_done.result c.annotate.result _ c.when_done.ensures
+          (on_ok_weaker c.annotate.result
+          (λ told w is.
+          told w is
+          ∙ ap (λ d. c.args.log.now.findings.items ++ flat_map (faults_at w) (definition_sites w no_locals d)) (sym whole))
+          c.annotate.ensures.faults);
+      before = on_done _ c.when_done.result c.annotate.result _ c.when_done.ensures
+          (on_ok_weaker c.annotate.result (λ told w is. told w is ∙ sym (ap (annotation_of w) whole))
+          c.annotate.ensures.meaning);
     }
 
 pub returns-in-Define : goal.returns-in-Define
@@ -55,15 +62,20 @@ returns-in-Define c =
           c.named.ensures.before;
     }
 
-pub returns-in_ok-note_parts-in-Destructure : goal.returns-in_ok-note_parts-in-Destructure
-returns-in_ok-note_parts-in-Destructure c =
+pub returns-in-Destructure : goal.returns-in-Destructure
+returns-in-Destructure c =
     let tokens = tokens_view c.args.tokens.now in
     let whole = ap (definition_view tokens) c.in-Destructure.is
     ∙ views.destructure_definition tokens c.in-Destructure.left c.in-Destructure.body in
     record {
-      meaning = λ w is named. ap (λ d. ValueItem (top_made w (option_map annotation_view c.args.before.now) d)) (sym whole);
-      faults = λ w is.
-          (c.in_ok-note_parts-in-Destructure.ensures w is).findings
-          ∙ ap (λ d. c.args.log.now.findings.items ++ flat_map (faults_at w) (definition_sites w no_locals d)) (sym whole);
-      before = λ w is. ap (option_map annotation_view) c.forget.ensures ∙ sym (ap (annotation_of w) whole);
+      meaning = if_done c.when_done-in-Destructure.result c.note_parts.result _ _ c.when_done-in-Destructure.ensures
+          (λ w is named. ap (λ d. ValueItem (top_made w (option_map annotation_view c.args.before.now) d)) (sym whole));
+      faults = on_done _ c.when_done-in-Destructure.result c.note_parts.result _ c.when_done-in-Destructure.ensures
+          (on_ok_weaker c.note_parts.result
+          (λ told w is.
+          (told w is).findings
+          ∙ ap (λ d. c.args.log.now.findings.items ++ flat_map (faults_at w) (definition_sites w no_locals d)) (sym whole))
+          c.note_parts.ensures);
+      before = anyway c.when_done-in-Destructure.result
+          (λ w is. ap (option_map annotation_view) c.forget.ensures ∙ sym (ap (annotation_of w) whole));
     }

@@ -15,47 +15,47 @@ use Rattle.canon_module.specs.CanonValuesKept.{item_view}
 use Rattle.canon_module.proofs.Meaning.{next_item}
 use Rattle.canon_module.proofs.walk.items.Goals as goal
 
-pub loop-declaration-preserved : goal.loop-declaration-preserved
-loop-declaration-preserved c =
+pub loop-number-preserved : goal.loop-number-preserved
+loop-number-preserved c =
     let view = declaration_view (tokens_view c.args.tokens.now) in
     let ds = c.args.declarations.now in
-    let i = c.loop-declaration.declaration-index in
-    let d = c.declaration-item.result in
-    let old = c.loop-declaration.items.items in
-    let before = option_map annotation_view c.loop-declaration.before in
+    let i = c.loop-number.number in
+    let d = c.at-declaration.result in
+    let old = c.loop-number.items.items in
+    let before = option_map annotation_view c.loop-number.before in
     let after = option_map annotation_view c.item.new.before in
     record {
       count =
-          omega (arith, c.loop-declaration.invariant.count, ap length c.in_ok-push.ensures, length_push old c.in_ok-item.item);
+          omega (arith, c.loop-number.invariant.count, ap length c.in_ok-put.ensures, length_push old c.in_ok-item.item);
       meaning = λ w is named.
           ap (λ l. l ++ items_of w after (map view (drop (i + 1) ds)))
-          (pushed item_view old _ _ (map item_view old) _ c.in_ok-push.ensures refl refl)
-          ∙ next_item w view ds i d before after (map item_view old) _ (omega arith) c.declaration-item.is
+          (pushed item_view old _ _ (map item_view old) _ c.in_ok-put.ensures refl refl)
+          ∙ next_item w view ds i d before after (map item_view old) _ (omega arith) c.at-declaration.ensures
           (c.in_ok-item.ensures.meaning w is named) (c.in_ok-item.ensures.before w is)
-          ∙ c.loop-declaration.invariant.meaning w is named;
+          ∙ c.loop-number.invariant.meaning w is named;
       faults = λ w is.
-          after_both c.loop-declaration.log.findings.items c.item.new.log.findings.items c.args.log.now.findings.items
+          after_both c.loop-number.log.findings.items c.item.new.log.findings.items c.args.log.now.findings.items
           (flat_map (declaration_faults w) (map view (take i ds))) (declaration_faults w (view d))
           (flat_map (declaration_faults w) (map view (take (i + 1) ds)))
-          (c.loop-declaration.invariant.faults w is) (c.in_ok-item.ensures.faults w is)
-          (flat_next (declaration_faults w) view ds i d (omega arith) c.declaration-item.is);
+          (c.loop-number.invariant.faults w is) (c.in_ok-item.ensures.faults w is)
+          (flat_next (declaration_faults w) view ds i d (omega arith) c.at-declaration.ensures);
     }
 
 pub returns-clause-meaning : goal.returns-clause-meaning
 returns-clause-meaning c = λ w is named.
     let view = declaration_view (tokens_view c.args.tokens.now) in
     let ds = c.args.declarations.now in
-    let items = map item_view c.loop-declaration.items.items in
-    let before = option_map annotation_view c.loop-declaration.before in
-    let none = drop_of_length-le ds {i = c.loop-declaration.declaration-index} (omega arith) in
+    let items = map item_view c.loop-number.items.items in
+    let before = option_map annotation_view c.loop-number.before in
+    let none = drop_of_length-le ds {i = c.loop-number.number} (omega arith) in
     sym (append-nil items)
     ∙ ap (λ l. items ++ items_of w before (map view l)) (sym none)
-    ∙ c.loop-declaration.invariant.meaning w is named
+    ∙ c.loop-number.invariant.meaning w is named
 
 pub returns-clause-faults : goal.returns-clause-faults
 returns-clause-faults c = λ w is.
     let view = declaration_view (tokens_view c.args.tokens.now) in
     let ds = c.args.declarations.now in
-    c.loop-declaration.invariant.faults w is
+    c.loop-number.invariant.faults w is
     ∙ ap (λ l. c.args.log.now.findings.items ++ flat_map (declaration_faults w) (map view l))
-    (take_all c.loop-declaration.declaration-index ds (omega arith))
+    (take_all c.loop-number.number ds (omega arith))

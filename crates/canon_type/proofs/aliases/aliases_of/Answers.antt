@@ -7,6 +7,7 @@ use Rattle.canon_type.specs.Written.{alias_in, aliases_in}
 use Rattle.canon_type.specs.Kept.{alias_view, aliases_view}
 use Rattle.canon_type.proofs.Naming.{some_next, none_next}
 use Rattle.canon_type.proofs.aliases.aliases_of.Goals as goal
+use Rattle.std.proofs.lemmas.List.{take_all}
 use Rattle.canon_type.proofs.aliases.aliases_of.Goals.{in-Some+in_ok-push-in-Some, in-None}
 
 pub loop-declaration-preserved : goal.loop-declaration-preserved
@@ -28,3 +29,9 @@ loop-declaration-preserved c = λ tokens.
           ∙ none_next alias_in (declaration_view tokens) ds i d (omega arith) c.declaration-item.is
           (ap (option_map (alias_view tokens)) (sym w.in-None.is) ∙ c.alias_of.ensures tokens)
     ]
+
+pub returns : goal.returns
+returns c = λ tokens.
+    c.loop-declaration.invariant tokens
+    ∙ ap (λ l. aliases_in (map (declaration_view tokens) l))
+    (take_all c.loop-declaration.declaration-index c.args.declarations.now (omega arith))

@@ -11,6 +11,7 @@ use Rattle.canon_type.proofs.Fillings.{bad_next}
 use Rattle.canon_type.specs.Walking.{faults_in}
 use Rattle.canon_type.specs.Unions.{fields_of, constructor_faults}
 use Rattle.canon_type.proofs.Making.{fields_made, fields_faults}
+use Rattle.std.proofs.lemmas.List.{take_all}
 use Rattle.canon_type.proofs.constructors.fields_of.Goals as goal
 
 pub loop-constructor-preserved : goal.loop-constructor-preserved
@@ -37,3 +38,16 @@ loop-constructor-preserved c =
           ∙ ap (λ l. c.loop-constructor.findings.items ++ flat_map (faults_in w) (map (type_view tokens) l))
           c.deref.ensures.value));
     }
+
+pub returns-clause-fields : goal.returns-clause-fields
+returns-clause-fields c = λ w h.
+    c.loop-constructor.invariant.fields w h
+    ∙ ap (λ l. map (fields_of w) (map (constructor_view (tokens_view c.args.tokens.now)) l))
+    (take_all c.loop-constructor.constructor-index c.args.constructors.now (omega arith))
+
+pub returns-clause-faults : goal.returns-clause-faults
+returns-clause-faults c = λ w h.
+    c.loop-constructor.invariant.faults w h
+    ∙ ap (λ l. c.args.findings.now.items
+    ++ flat_map (constructor_faults w) (map (constructor_view (tokens_view c.args.tokens.now)) l))
+    (take_all c.loop-constructor.constructor-index c.args.constructors.now (omega arith))

@@ -4,6 +4,7 @@ use Rattle.std.specs.Prelude.{filter_map}
 use Rattle.std.proofs.lemmas.List.Elements.{filter_map-append}
 use Rattle.canon_env.proofs.Filtering.{take_next}
 use Rattle.canon_type.specs.CanonAliasesKept.{made_view}
+use Rattle.std.proofs.lemmas.List.{take_all}
 use Rattle.canon_type.proofs.declaring.all_made.Goals as goal
 
 pub loop-one-preserved : goal.loop-one-preserved
@@ -14,3 +15,7 @@ loop-one-preserved c =
     c.in_ok-push_made.ensures ∙ ap (λ z. z ++ filter_map made_view (m ∷ [])) c.loop-one.invariant
     ∙ sym (ap (filter_map made_view) (take_next made i m (omega arith) c.one-item.is)
     ∙ filter_map-append made_view (take i made) (m ∷ []))
+
+pub returns : goal.returns
+returns c =
+    c.loop-one.invariant ∙ ap (filter_map made_view) (take_all c.loop-one.one-index c.args.made.now (omega arith))

@@ -7,6 +7,9 @@ use Rattle.canon_env.specs.Expanding.{bad_fields}
 use Rattle.canon_type.specs.Filling.{bad_field}
 use Rattle.canon_type.proofs.Fillings.{bad_named, bad_in_function, bad_in_tuple, bad_in_record, bad_in_extended}
 use Rattle.canon_type.proofs.Fillings.{bad_next}
+use Rattle.std.specs.Prelude.{flat_map}
+use Rattle.std.proofs.Common.{map}
+use Rattle.std.proofs.lemmas.List.{take_all}
 use Rattle.canon_type.proofs.filling.+badness.Goals as goal
 
 pub push_bad_fields-returns-in-Variable : goal.push_bad_fields-returns-in-Variable
@@ -69,3 +72,21 @@ push_bad_in_fields-loop-field-preserved t c = λ s h.
     (c.loop-field.invariant s h)
     (c.in_ok-push_bad_fields.ensures s h
     ∙ ap (λ p. c.loop-field.bad.items ++ bad_field s p) (sym (field_type c.field-item.result)))
+
+pub push_bad_in_all-returns : goal.push_bad_in_all-returns
+push_bad_in_all-returns t c = λ s h.
+    c.loop-t.invariant s h
+    ∙ ap (λ l. c.args.bad.now.items ++ flat_map (bad_fields s) (map annotation_view l))
+    (take_all c.loop-t.t-index c.args.types.now (omega arith))
+
+pub push_bad_in_fields-returns : goal.push_bad_in_fields-returns
+push_bad_in_fields-returns t c = λ s h.
+    c.loop-field.invariant s h
+    ∙ ap (λ l. c.args.bad.now.items ++ flat_map (bad_field s) (map field_type_view l))
+    (take_all c.loop-field.field-index c.args.fields.now (omega arith))
+
+pub push_bad_in_all-loop-t-init : goal.push_bad_in_all-loop-t-init
+push_bad_in_all-loop-t-init t c = λ s h. sym (append-nil c.args.bad.now.items)
+
+pub push_bad_in_fields-loop-field-init : goal.push_bad_in_fields-loop-field-init
+push_bad_in_fields-loop-field-init t c = λ s h. sym (append-nil c.args.bad.now.items)

@@ -14,6 +14,7 @@ use Rattle.canon_env.specs.declared.finding.Finding.{Finding}
 use Rattle.canon_env.specs.Sites.{at_word}
 use Rattle.canon_env.proofs.Repeating.{map_at}
 use Rattle.canon_type.specs.Parameters.{missing}
+use Rattle.std.proofs.lemmas.List.{take_all}
 use Rattle.canon_type.proofs.parameters.push_all_missing.Goals as goal
 
 missing_more : (code : Code) (ws among : List plain.Word) (w : plain.Word) →
@@ -43,3 +44,11 @@ loop-word-preserved c =
     c.args.findings.now.items c.loop-word.findings.items c.push_missing.new.findings.items
     (map_at (word_view tokens) c.args.words.now i (record { index = 0 }) (omega arith)) c.loop-word.invariant
     (c.in_ok-push_missing.ensures among c.in_ok-names.ensures)
+
+pub returns : goal.returns
+returns c =
+    let tokens = tokens_view c.args.tokens.now in
+    c.loop-word.invariant
+    ∙ ap (λ l. c.args.findings.now.items
+    ++ missing c.args.code (words_view tokens l) (words_view tokens c.args.among.now))
+    (take_all c.loop-word.word-index c.args.words.now (omega arith))

@@ -6,6 +6,7 @@ use Rattle.canon_type.proofs.Fillings.{bad_next}
 use Rattle.canon_type.specs.Written.{variables_in}
 use Rattle.canon_type.specs.Parameters.{constructor_variables}
 use Rattle.canon_type.proofs.Parts.{all_list}
+use Rattle.std.proofs.lemmas.List.{take_all}
 use Rattle.canon_type.proofs.parameters.variables_of.Goals as goal
 
 pub loop-constructor-preserved : goal.loop-constructor-preserved
@@ -19,3 +20,9 @@ loop-constructor-preserved c = λ tokens.
     c.deref.ensures.value
     ∙ ap (λ z. words_view tokens c.loop-constructor.words.items ++ z)
     (sym (all_list (map (type_view tokens) k.arguments.items))))
+
+pub returns : goal.returns
+returns c = λ tokens.
+    c.loop-constructor.invariant tokens
+    ∙ ap (λ l. flat_map constructor_variables (map (constructor_view tokens) l))
+    (take_all c.loop-constructor.constructor-index c.args.constructors.now (omega arith))

@@ -14,6 +14,7 @@ use Rattle.canon_type.proofs.Naming.{some_next, none_next}
 use Rattle.canon_type.specs.Unions.{union_in, unions_in, bare_union}
 use Rattle.canon_type.specs.CanonDeclaredKept.{union_view}
 use Rattle.canon_type.proofs.unions.bare_unions.Goals as goal
+use Rattle.std.proofs.lemmas.List.{take_all}
 use Rattle.canon_type.proofs.unions.bare_unions.Goals.{in-Some+in_ok-union-in-Some+in_ok-new-in-Some+in_ok-push-in-Some, in-None}
 
 pub loop-declaration-preserved : goal.loop-declaration-preserved
@@ -44,3 +45,9 @@ loop-declaration-preserved c =
           (ap (option_map (union_view tokens)) (sym b.in-None.is) ∙ c.union_in.ensures tokens) in
           ap (λ v. unions_view v.items) b.unions-is ∙ c.loop-declaration.invariant ∙ ap (map (bare_union home)) next
     ]
+
+pub returns : goal.returns
+returns c =
+    c.loop-declaration.invariant
+    ∙ ap (λ l. map (bare_union c.args.home.now) (unions_in (map (declaration_view (tokens_view c.args.tokens.now)) l)))
+    (take_all c.loop-declaration.declaration-index c.args.declarations.now (omega arith))

@@ -16,6 +16,7 @@ use Rattle.canon_type.proofs.Naming.{some_next, none_next}
 use Rattle.canon_type.specs.Unions.{union_in, unions_in, union_of, union_faults}
 use Rattle.canon_type.specs.CanonDeclaredKept.{union_view}
 use Rattle.canon_type.proofs.unions.declared_unions.Goals as goal
+use Rattle.std.proofs.lemmas.List.{take_all}
 use Rattle.canon_type.proofs.unions.declared_unions.Goals.{in-Some+in_ok-union-in-Some+in_ok-new-in-Some+in_ok-push-in-Some, in-None}
 
 pub loop-declaration-preserved : goal.loop-declaration-preserved
@@ -64,3 +65,16 @@ loop-declaration-preserved c =
                 ∙ ap (λ z. old ++ flat_map (union_faults w) z) next;
           }
     ]
+
+pub returns-clause-unions : goal.returns-clause-unions
+returns-clause-unions c = λ w h.
+    c.loop-declaration.invariant.unions w h
+    ∙ ap (λ l. map (union_of c.args.home.now w) (unions_in (map (declaration_view (tokens_view c.args.tokens.now)) l)))
+    (take_all c.loop-declaration.declaration-index c.args.declarations.now (omega arith))
+
+pub returns-clause-faults : goal.returns-clause-faults
+returns-clause-faults c = λ w h.
+    c.loop-declaration.invariant.faults w h
+    ∙ ap (λ l. c.args.findings.now.items
+    ++ flat_map (union_faults w) (unions_in (map (declaration_view (tokens_view c.args.tokens.now)) l)))
+    (take_all c.loop-declaration.declaration-index c.args.declarations.now (omega arith))

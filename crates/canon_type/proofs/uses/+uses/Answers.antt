@@ -7,9 +7,11 @@ use Rattle.elm_tree.specs.Turns.{tokens_view}
 use Rattle.elm_tree.proofs.Views as views
 use Rattle.elm_tree.specs.declared.tree.TypeTree.TheVariants as form
 use Rattle.canon_type.proofs.Fillings.{bad_next}
-use Rattle.canon_type.specs.Kept.{field_places}
+use Rattle.canon_type.specs.Kept.{places_in, field_places}
 use Rattle.canon_type.proofs.Places.{variable_places, named_places, function_places, tuple_places, record_places}
 use Rattle.canon_type.proofs.Places.{extended_places}
+use Rattle.std.specs.Prelude.{flat_map}
+use Rattle.std.proofs.lemmas.List.{take_all}
 use Rattle.canon_type.proofs.uses.+uses.Goals as goal
 
 pub push_uses-returns-in-Variable : goal.push_uses-returns-in-Variable
@@ -91,3 +93,23 @@ push_field_uses-loop-field-preserved t c = λ unions aliases h.
     (c.loop-field.invariant unions aliases h)
     (c.in_ok-push_uses.ensures unions aliases h
     ∙ ap (λ p. c.loop-field.places.items ++ field_places unions aliases p) (sym (views.field_of_type tokens f)))
+
+pub push_all_uses-loop-one-preserved : goal.push_all_uses-loop-one-preserved
+push_all_uses-loop-one-preserved t c = λ unions aliases h.
+    bad_next (places_in unions aliases) (type_view (tokens_view c.args.tokens.now)) c.args.written.now c.loop-one.one-index
+    c.one-item.result c.args.places.now.items c.loop-one.places.items c.push_uses.new.places.items (omega arith)
+    c.one-item.is (c.loop-one.invariant unions aliases h) (c.in_ok-push_uses.ensures unions aliases h)
+
+pub push_all_uses-returns : goal.push_all_uses-returns
+push_all_uses-returns t c = λ unions aliases h.
+    c.loop-one.invariant unions aliases h
+    ∙ ap (λ l. c.args.places.now.items
+    ++ flat_map (places_in unions aliases) (map (type_view (tokens_view c.args.tokens.now)) l))
+    (take_all c.loop-one.one-index c.args.written.now (omega arith))
+
+pub push_field_uses-returns : goal.push_field_uses-returns
+push_field_uses-returns t c = λ unions aliases h.
+    c.loop-field.invariant unions aliases h
+    ∙ ap (λ l. c.args.places.now.items
+    ++ flat_map (field_places unions aliases) (map (field_type_view (tokens_view c.args.tokens.now)) l))
+    (take_all c.loop-field.field-index c.args.written.now (omega arith))

@@ -9,6 +9,8 @@ use Rattle.canon_type.proofs.Fillings.{bad_next}
 use Rattle.canon_type.specs.Written.{variables_in}
 use Rattle.canon_type.specs.Kept.{field_variables}
 use Rattle.canon_type.proofs.Parts.{variable_more, named_more, function_more, tuple_more, record_more, extended_more}
+use Rattle.std.specs.Prelude.{flat_map}
+use Rattle.std.proofs.lemmas.List.{take_all}
 use Rattle.canon_type.proofs.variables.+variables.Goals as goal
 
 pub push_variables-returns-in_ok-push-in-Variable : goal.push_variables-returns-in_ok-push-in-Variable
@@ -87,3 +89,15 @@ push_in_fields-loop-field-preserved t c = λ tokens.
     (c.in_ok-push_variables.ensures tokens
     ∙ ap (λ p. words_view tokens c.loop-field.words.items ++ field_variables p)
     (sym (views.field_of_type tokens c.field-item.result)))
+
+pub push_all-returns : goal.push_all-returns
+push_all-returns t c = λ tokens.
+    c.loop-one.invariant tokens
+    ∙ ap (λ l. words_view tokens c.args.words.now.items ++ flat_map variables_in (map (type_view tokens) l))
+    (take_all c.loop-one.one-index c.args.written.now (omega arith))
+
+pub push_in_fields-returns : goal.push_in_fields-returns
+push_in_fields-returns t c = λ tokens.
+    c.loop-field.invariant tokens
+    ∙ ap (λ l. words_view tokens c.args.words.now.items ++ flat_map field_variables (map (field_type_view tokens) l))
+    (take_all c.loop-field.field-index c.args.written.now (omega arith))

@@ -1,5 +1,5 @@
 -- By the form of the group.
-use Rattle.std.proofs.Common.{◌≡◌, ◌++◌, map, sym, ap, ◌∙◌, subst, append-nil}
+use Rattle.std.proofs.Common.{◌≡◌, ◌++◌, sym, ap, ◌∙◌, subst, append-nil}
 use Rattle.std.specs.Prelude.{flat_map, OnOk}
 use Rattle.elm_canon.specs.View.{title_view, group_view}
 use Rattle.elm_canon.proofs.Views.{together, constant, destructure}
@@ -9,11 +9,11 @@ use Rattle.core_modules.proofs.functions.push_group.Goals as goal
 
 pub returns-in-Together : goal.returns-in-Together
 returns-in-Together c =
-    subst (λ ts. OnOk c.push_functions.result (c.push_functions.new.findings.items
+    subst (λ ts. OnOk c.push_all.result (c.push_all.new.findings.items
     ≡ c.args.findings.now.items ++ flat_map title_faults ts))
-    (ap (λ fs. map (λ f. title_view f.title) fs) c.deref.ensures.value ∙ titles c.in-Together.functions.items
+    (titles c.in-Together.functions.items
     ∙ sym (ap group_titles (ap group_view c.in-Together.is ∙ together c.in-Together.functions)))
-    c.push_functions.ensures
+    c.push_all.ensures
 
 pub returns-in-Constant : goal.returns-in-Constant
 returns-in-Constant c =

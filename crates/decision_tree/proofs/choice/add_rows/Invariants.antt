@@ -1,11 +1,9 @@
 use Rattle.std.proofs.Common.{◌≡◌, ◌++◌, drop, map}
-use Rattle.elm_canon.specs.Tree.{branches_of}
-use Rattle.elm_canon.specs.View.{branch_view}
-use Rattle.js_emit.specs.Matrix.{rows_from}
-use Rattle.decision_tree.specs.Views.{rows_view}
+use Rattle.elm_canon.specs.View.{pattern_view}
+use Rattle.decision_tree.specs.Views.{rows_of, rows_view}
 use Rattle.decision_tree.proofs.choice.add_rows.Given as goal
 
 abbrev pub invariant-loop-number : goal.invariant-loop-number
 invariant-loop-number l =
-    rows_view l.out.items ++ rows_from l.number (branches_of (map branch_view (drop l.number l.branches)))
-    ≡ rows_view l.fn.out.items ++ rows_from 0 (branches_of (map branch_view l.branches))
+    rows_view l.out.items ++ rows_of l.number (drop l.number (map (λ p. pattern_view p.now) l.patterns.items))
+    ≡ rows_view l.fn.out.items ++ rows_of 0 (map (λ p. pattern_view p.now) l.patterns.items)

@@ -6,14 +6,14 @@ use Rattle.decision_tree.specs.Run.{all_done}
 use Rattle.decision_tree.proofs.Doing.{done_push}
 use Rattle.decision_tree.proofs.choice.choose.Goals as goal
 
-pub returns-in_ok-chain_of-in-Split : goal.returns-in_ok-chain_of-in-Split
-returns-in_ok-chain_of-in-Split c =
+pub returns-in-Ok : goal.returns-in-Ok
+returns-in-Ok c =
     let work = c.args.work.now.items in
     let ts = trees_of c.args.trees.now in
     on_ok_weaker c.add.result
     (λ e subject.
     ap (λ ws. all_done subject ws ts) e
-    ∙ (done_push subject work (task.Try c.in_ok-chain_of-in-Split.field-0) ts
+    ∙ (done_push subject work (task.Try c.in-Ok.chain) ts
     ∙ ap (λ x. all_done subject work (Expression x ∷ ts))
-    (c.in_ok-chain_of-in-Split.ensures subject ∙ sym (c.in-Split.ensures.look subject))))
+    (c.in-Ok.ensures subject ∙ sym (c.in-Split.ensures.look subject))))
     c.add.ensures

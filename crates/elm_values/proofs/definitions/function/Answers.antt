@@ -14,7 +14,7 @@ returns c =
     on_ok_weaker c.put_rest.result
     (λ e tokens.
     acted FunctionRest
-    (took (Many item.Pattern) (c.take_patterns-list.ensures.value tokens) (c.take_patterns-list.ensures.rest tokens)
+    (took (Many item.Pattern) (c.take_patterns.ensures.value tokens) (c.take_patterns.ensures.rest tokens)
     (took (One item.Word) refl (c.skip_word.ensures tokens)
     (took (One item.Expr) (c.take_expr-body.ensures.value tokens) (c.take_expr-body.ensures.rest tokens)
     (done tokens _))))

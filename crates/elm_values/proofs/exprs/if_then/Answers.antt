@@ -1,8 +1,9 @@
 -- What is taken off the stacks in turn (`took`) gives way to what is made of it (`acted`).
 use Rattle.std.proofs.Common.{refl}
 use Rattle.std.proofs.lemmas.Result.{on_ok_weaker}
-use Rattle.elm_grammar.specs.declared.action.Item.TheVariants as item
+use Rattle.elm_tree.proofs.Views.{if_expr}
 use Rattle.elm_grammar.specs.declared.action.Action.TheVariants.{IfOf}
+use Rattle.elm_grammar.specs.declared.action.Item.TheVariants as item
 use Rattle.elm_grammar.specs.Values.{One, act, gives, takes}
 use Rattle.elm_values.proofs.Acting.{acted, done, took}
 use Rattle.elm_values.proofs.exprs.if_then.Goals as goal
@@ -14,10 +15,11 @@ returns c =
     (λ e tokens.
     acted IfOf
     (took (One item.Word) refl (c.skip_word.ensures tokens)
-    (took (One item.Expr) (c.take_expr-condition.ensures.value tokens) (c.take_expr-condition.ensures.rest tokens)
+    (took (One item.Expr) (c.in_ok-condition.ensures.value tokens) (c.in_ok-condition.ensures.rest tokens)
     (took (One item.Word) refl (c.skip_word-2.ensures tokens)
-    (took (One item.Expr) (c.take_expr-yes.ensures.value tokens) (c.take_expr-yes.ensures.rest tokens)
+    (took (One item.Expr) (c.in_ok-yes.ensures.value tokens) (c.in_ok-yes.ensures.rest tokens)
     (took (One item.Word) refl (c.skip_word-3.ensures tokens)
-    (took (One item.Expr) (c.take_expr-no.ensures.value tokens) (c.take_expr-no.ensures.rest tokens)
+    (took (One item.Expr) (c.in_ok-no.ensures.value tokens) (c.in_ok-no.ensures.rest tokens)
     (done tokens _)))))))
-    (c.in_ok-made.ensures tokens) (e tokens)) c.put_expr.ensures
+    (if_expr tokens c.in_ok-condition.condition c.in_ok-yes.yes c.in_ok-no.no) (e tokens))
+    c.put_expr.ensures

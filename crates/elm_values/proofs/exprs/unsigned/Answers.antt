@@ -1,23 +1,26 @@
--- What is taken off the stacks in turn (`took`) gives way to what is made of it (`acted`).
-use Rattle.std.proofs.Common.{ap, ◌∙◌}
+-- The lists are taken first, and then the expression below them.
+use Rattle.std.proofs.Common.{ap, ap₂, ◌∙◌}
 use Rattle.std.proofs.lemmas.Result.{on_ok_weaker}
-use Rattle.elm_tree.specs.View.{part_view}
+use Rattle.elm_tree.specs.View.{expr_view, part_view}
 use Rattle.elm_grammar.specs.declared.action.Item.TheVariants as item
-use Rattle.elm_grammar.specs.declared.action.Action.TheVariants.{UnsignedOf}
-use Rattle.elm_grammar.specs.Values.{chained, Many, One, act, gives, takes}
-use Rattle.elm_values.specs.Stack.{held}
-use Rattle.elm_values.proofs.Acting.{acted, done, took}
+use Rattle.elm_grammar.specs.Values.{Many, One, act, applied, chained, gives, takes}
+use Rattle.elm_values.specs.Stack.{held, pop, push, top}
 use Rattle.elm_values.proofs.exprs.unsigned.Goals as goal
 
 pub returns : goal.returns
-unfolding takes gives act
+unfolding takes gives act push pop top
 returns c =
-    on_ok_weaker c.put_expr.result
-    (λ e tokens.
-    acted UnsignedOf
-    (took (One item.Expr) (c.take_expr-operand.ensures.value tokens) (c.take_expr-operand.ensures.rest tokens)
-    (took (Many item.Expr) (c.take_exprs-arguments.ensures.value tokens) (c.take_exprs-arguments.ensures.rest tokens)
-    (took (Many item.Part) (c.take_parts-others.ensures.value tokens) (c.take_parts-others.ensures.rest tokens)
-    (done tokens _))))
-    (c.in_ok-made.ensures tokens ∙
-    ap (λ z. chained z (held (part_view tokens) c.take_parts-others.result.items)) (c.in_ok-applied.ensures tokens)) (e tokens)) c.put_expr.ensures
+    on_ok_weaker c.chain_last.result
+    (λ h tokens.
+    let es = held (expr_view tokens) c.take_exprs-arguments.result.items in
+    let ps = held (part_view tokens) c.take_parts-others.result.items in
+    h tokens ∙
+    (ap (λ z. push (One item.Expr) (chained (top tokens (One item.Expr) z) ps) (pop (One item.Expr) z))
+    (c.in_ok-apply_last.ensures tokens) ∙
+    (ap₂ (λ y z. push (One item.Expr) (chained (applied (top tokens (One item.Expr) y) es) z) (pop (One item.Expr) y))
+    (c.take_parts-others.ensures.rest tokens) (c.take_parts-others.ensures.value tokens) ∙
+    ap₂ (λ y z. push (One item.Expr)
+    (chained (applied (top tokens (One item.Expr) y) z) (top tokens (Many item.Part) y))
+    (pop (One item.Expr) (pop (Many item.Part) y)))
+    (c.take_exprs-arguments.ensures.rest tokens) (c.take_exprs-arguments.ensures.value tokens))))
+    c.chain_last.ensures

@@ -1,17 +1,22 @@
--- An item is taken, a list is taken, and the list is put back with the item in front (`grown`).
-use Rattle.std.proofs.Common.{map, ap}
+-- What is taken goes in front of the last list (`seen_in`), and the others stay (`seen_tail`).
+use Rattle.std.proofs.Common.{ap, ap₂, refl, reverse, ◌∙◌}
 use Rattle.std.proofs.lemmas.Result.{on_ok_weaker}
 use Rattle.elm_tree.specs.View.{exposed_view}
+use Rattle.elm_grammar.specs.declared.action.Action.TheVariants.{More}
 use Rattle.elm_grammar.specs.declared.action.Item.TheVariants as item
-use Rattle.elm_values.specs.Stack.{columns}
-use Rattle.elm_values.proofs.Acting.{grown}
+use Rattle.elm_grammar.specs.Values.{takes, gives, act}
+use Rattle.elm_values.specs.Stack.{apply, columns, pop, push, top}
+use Rattle.elm_values.proofs.Columns.{seen_head, seen_in, seen_tail}
 use Rattle.elm_values.proofs.items.more_exposed.Goals as goal
 
 pub returns : goal.returns
+unfolding takes gives act columns push pop top
 returns c =
-    on_ok_weaker c.put_exposed_list.result
+    on_ok_weaker c.grow.result
     (λ h tokens.
-    grown item.Exposed tokens (columns tokens c.args.stacks.now) (c.take_exposed-first.ensures.value tokens) (c.take_exposed-first.ensures.rest tokens)
-    (c.take_exposed_list-list.ensures.value tokens) (c.take_exposed_list-list.ensures.rest tokens)
-    (ap (map (exposed_view tokens)) c.in_ok-put.ensures) (h tokens))
-    c.put_exposed_list.ensures
+    ap₂ (λ y z. record (columns tokens c.stacks.inside.held) { exposed = y; exposed_lists = z })
+    (seen_tail (exposed_view tokens) (reverse c.stacks.inside.held.exposed.items) h.0)
+    (seen_in (exposed_view tokens) c.stacks.inside.held.exposed_lists.items c.grow.new.lists.items h.1
+    (seen_head (exposed_view tokens) (reverse c.stacks.inside.held.exposed.items) refl (c.no_exposed.ensures tokens))) ∙
+    ap (λ z. apply tokens (More item.Exposed) (columns tokens z)) c.stacks.view_is)
+    c.grow.ensures

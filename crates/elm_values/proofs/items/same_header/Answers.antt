@@ -1,13 +1,19 @@
--- A value is taken and put back (`passed`).
+-- The first of the column stays (`seen_kept`).
+use Rattle.std.proofs.Common.{ap, reverse, ◌∙◌}
 use Rattle.std.proofs.lemmas.Result.{on_ok_weaker}
+use Rattle.elm_tree.specs.View.{header_view}
+use Rattle.elm_grammar.specs.declared.action.Action.TheVariants.{Same}
 use Rattle.elm_grammar.specs.declared.action.Item.TheVariants as item
-use Rattle.elm_values.specs.Stack.{columns}
-use Rattle.elm_values.proofs.Acting.{passed}
+use Rattle.elm_grammar.specs.Values.{takes, gives, act}
+use Rattle.elm_values.specs.Stack.{apply, columns, pop, push, top}
+use Rattle.elm_values.proofs.Columns.{seen_kept}
 use Rattle.elm_values.proofs.items.same_header.Goals as goal
 
 pub returns : goal.returns
+unfolding takes gives act columns push pop top
 returns c =
-    on_ok_weaker c.put_header.result
-    (λ h tokens.
-    passed item.Header tokens (columns tokens c.args.stacks.now) (c.take_header-value.ensures.value tokens) (c.take_header-value.ensures.rest tokens) (h tokens))
-    c.put_header.ensures
+    on_ok_weaker c.keep.result
+    (λ h tokens. ap (λ z. record (columns tokens c.stacks.inside.held) { headers = z })
+    (seen_kept (header_view tokens) (reverse c.stacks.inside.held.headers.items) h (c.no_header.ensures tokens)) ∙
+    ap (λ z. apply tokens (Same item.Header) (columns tokens z)) c.stacks.view_is)
+    c.keep.ensures

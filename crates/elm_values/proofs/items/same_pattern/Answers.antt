@@ -1,13 +1,18 @@
--- A value is taken and put back (`passed`).
+-- The first of the column stays (`seen_kept`).
+use Rattle.std.proofs.Common.{ap, reverse, ◌∙◌}
 use Rattle.std.proofs.lemmas.Result.{on_ok_weaker}
+use Rattle.elm_grammar.specs.declared.action.Action.TheVariants.{Same}
 use Rattle.elm_grammar.specs.declared.action.Item.TheVariants as item
-use Rattle.elm_values.specs.Stack.{columns}
-use Rattle.elm_values.proofs.Acting.{passed}
+use Rattle.elm_grammar.specs.Values.{takes, gives, act}
+use Rattle.elm_values.specs.Stack.{apply, begun_view, columns, pop, push, top}
+use Rattle.elm_values.proofs.Columns.{seen_kept}
 use Rattle.elm_values.proofs.items.same_pattern.Goals as goal
 
 pub returns : goal.returns
+unfolding takes gives act columns push pop top
 returns c =
-    on_ok_weaker c.put_pattern.result
-    (λ h tokens.
-    passed item.Pattern tokens (columns tokens c.args.stacks.now) (c.take_pattern-value.ensures.value tokens) (c.take_pattern-value.ensures.rest tokens) (h tokens))
-    c.put_pattern.ensures
+    on_ok_weaker c.keep.result
+    (λ h tokens. ap (λ z. record (columns tokens c.stacks.inside.held) { patterns = z })
+    (seen_kept (begun_view tokens) (reverse c.stacks.inside.held.patterns.items) h (c.no_pattern.ensures tokens)) ∙
+    ap (λ z. apply tokens (Same item.Pattern) (columns tokens z)) c.stacks.view_is)
+    c.keep.ensures

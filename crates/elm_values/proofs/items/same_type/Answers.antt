@@ -1,13 +1,19 @@
--- A value is taken and put back (`passed`).
+-- The first of the column stays (`seen_kept`).
+use Rattle.std.proofs.Common.{ap, reverse, ◌∙◌}
 use Rattle.std.proofs.lemmas.Result.{on_ok_weaker}
+use Rattle.elm_tree.specs.View.{type_view}
+use Rattle.elm_grammar.specs.declared.action.Action.TheVariants.{Same}
 use Rattle.elm_grammar.specs.declared.action.Item.TheVariants as item
-use Rattle.elm_values.specs.Stack.{columns}
-use Rattle.elm_values.proofs.Acting.{passed}
+use Rattle.elm_grammar.specs.Values.{takes, gives, act}
+use Rattle.elm_values.specs.Stack.{apply, columns, pop, push, top}
+use Rattle.elm_values.proofs.Columns.{seen_kept}
 use Rattle.elm_values.proofs.items.same_type.Goals as goal
 
 pub returns : goal.returns
+unfolding takes gives act columns push pop top
 returns c =
-    on_ok_weaker c.put_type.result
-    (λ h tokens.
-    passed item.TypeTree tokens (columns tokens c.args.stacks.now) (c.take_type-value.ensures.value tokens) (c.take_type-value.ensures.rest tokens) (h tokens))
-    c.put_type.ensures
+    on_ok_weaker c.keep.result
+    (λ h tokens. ap (λ z. record (columns tokens c.stacks.inside.held) { types = z })
+    (seen_kept (type_view tokens) (reverse c.stacks.inside.held.types.items) h (c.no_type.ensures tokens)) ∙
+    ap (λ z. apply tokens (Same item.TypeTree) (columns tokens z)) c.stacks.view_is)
+    c.keep.ensures

@@ -17,9 +17,9 @@ returns c =
     acted AliasOf
     (took (One item.Word) refl (c.skip_word.ensures tokens)
     (took (One item.Word) (c.take_word-name.ensures.value tokens) (c.take_word-name.ensures.rest tokens)
-    (took (Many item.Word) (c.take_words-list.ensures.value tokens) (c.take_words-list.ensures.rest tokens)
+    (took (Many item.Word) (c.take_words.ensures.value tokens) (c.take_words.ensures.rest tokens)
     (took (One item.Word) refl (c.skip_word-2.ensures tokens)
     (took (One item.TypeTree) (c.take_type-written.ensures.value tokens) (c.take_type-written.ensures.rest tokens)
     (done tokens _))))))
     (ap (λ z. Alias (word_view tokens c.take_word-name.result) z (type_view tokens c.take_type-written.result))
-    (ap (words_view tokens) c.turned-parameters.ensures ∙ words_seen tokens (reverse c.take_words-list.result.items))) (e tokens)) c.put_declaration.ensures
+    (ap (words_view tokens) c.turned-parameters.ensures ∙ words_seen tokens (reverse c.take_words.result.items))) (e tokens)) c.put_declaration.ensures

@@ -16,10 +16,10 @@ returns c =
     acted ImportOf
     (took (One item.Word) refl (c.skip_word.ensures tokens)
     (took (One item.Word) (c.take_word-name.ensures.value tokens) (c.take_word-name.ensures.rest tokens)
-    (took (Many item.Word) (c.take_words-list.ensures.value tokens) (c.take_words-list.ensures.rest tokens)
+    (took (Many item.Word) (c.take_words.ensures.value tokens) (c.take_words.ensures.rest tokens)
     (took (One item.Exposing) (c.take_exposing-exposes.ensures.value tokens)
     (c.take_exposing-exposes.ensures.rest tokens) (done tokens _)))))
     (ap (λ z. import_of (word_view tokens c.take_word-name.result) z
     (exposing_view tokens c.take_exposing-exposes.result))
     (ap (option_map (word_view tokens)) c.first-alias.ensures ∙ alias_seen tokens
-    (reverse c.take_words-list.result.items))) (e tokens)) c.put_import.ensures
+    (reverse c.take_words.result.items))) (e tokens)) c.put_import.ensures

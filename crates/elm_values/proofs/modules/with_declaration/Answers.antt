@@ -1,25 +1,26 @@
--- What is taken off the stacks in turn (`took`) gives way to what is made of it (`acted`).
-use Rattle.std.proofs.Common.{map, ap, List}
+-- What is taken goes in front of the list of the module (`seen_moved`), and the others stay (`seen_tail`).
+use Rattle.std.proofs.Common.{reverse, ap, ap₂, ◌∙◌}
 use Rattle.std.proofs.lemmas.Result.{on_ok_weaker}
 use Rattle.elm_tree.specs.View.{declaration_view}
-use Rattle.elm_tree.specs.declared.tree.Declaration.{Declaration}
-use Rattle.elm_grammar.specs.declared.action.Action.TheVariants.{WithDeclaration}
 use Rattle.elm_grammar.specs.declared.action.Item.TheVariants as item
-use Rattle.elm_grammar.specs.Values.{One, takes, gives, act}
-use Rattle.elm_values.specs.Stack.{built_module}
-use Rattle.elm_values.proofs.Acting.{acted, done, took}
+use Rattle.elm_grammar.specs.Values.{One, act, gives, takes, with_declaration}
+use Rattle.elm_values.specs.Stack.{built_module, columns, pop, push, top}
+use Rattle.elm_values.proofs.Columns.{seen_moved, seen_tail}
 use Rattle.elm_values.proofs.modules.with_declaration.Goals as goal
 
 pub returns : goal.returns
-unfolding takes gives act
+unfolding takes gives act columns push pop top
 returns c =
     on_ok_weaker c.put_module.result
-    (λ e tokens.
-    acted WithDeclaration
-    (took (One item.Declaration) (c.take_declaration-declaration.ensures.value tokens) (c.take_declaration-declaration.ensures.rest tokens)
-    (took (One item.Module) (c.take_module-built.ensures.value tokens) (c.take_module-built.ensures.rest tokens)
-    (done tokens _)))
-    (ap (λ (z : List Declaration). record {
-      head = (built_module tokens c.take_module-built.result).head;
-      declarations = map (declaration_view tokens) z;
-    }) c.in_ok-put.ensures) (e tokens)) c.put_module.ensures
+    (λ h tokens.
+    let t = columns tokens c.stacks.inside.held in
+    let m = built_module tokens c.take_module-built.result in
+    h tokens ∙
+    (ap₂ (λ y z. push (One item.Module) (record { head = m.head; declarations = y }) (record t { declarations = z }))
+    (seen_moved (declaration_view tokens) (reverse c.stacks.inside.held.declarations.items) c.in_ok-move_to.ensures.1
+    (c.no_declaration.ensures tokens))
+    (seen_tail (declaration_view tokens) (reverse c.stacks.inside.held.declarations.items) c.in_ok-move_to.ensures.0) ∙
+    ap₂ (λ y z. push (One item.Module) (with_declaration (top tokens (One item.Declaration) z) y) (pop (One item.Declaration) z))
+    (c.take_module-built.ensures.value tokens)
+    (ap (columns tokens) c.stacks.view_is ∙ c.take_module-built.ensures.rest tokens)))
+    c.put_module.ensures

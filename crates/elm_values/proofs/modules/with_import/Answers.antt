@@ -1,28 +1,26 @@
--- What is taken off the stacks in turn (`took`) gives way to what is made of it (`acted`).
-use Rattle.std.proofs.Common.{map, ap, List}
+-- What is taken goes in front of the list of the module (`seen_moved`), and the others stay (`seen_tail`).
+use Rattle.std.proofs.Common.{reverse, ap, ap₂, ◌∙◌}
 use Rattle.std.proofs.lemmas.Result.{on_ok_weaker}
 use Rattle.elm_tree.specs.View.{import_view}
-use Rattle.elm_tree.specs.declared.tree.Import.{Import}
-use Rattle.elm_grammar.specs.declared.action.Action.TheVariants.{WithImport}
 use Rattle.elm_grammar.specs.declared.action.Item.TheVariants as item
-use Rattle.elm_grammar.specs.Values.{One, takes, gives, act}
-use Rattle.elm_values.specs.Stack.{built_module}
-use Rattle.elm_values.proofs.Acting.{acted, done, took}
+use Rattle.elm_grammar.specs.Values.{One, act, gives, takes, with_import}
+use Rattle.elm_values.specs.Stack.{built_module, columns, pop, push, top}
+use Rattle.elm_values.proofs.Columns.{seen_moved, seen_tail}
 use Rattle.elm_values.proofs.modules.with_import.Goals as goal
 
 pub returns : goal.returns
-unfolding takes gives act
+unfolding takes gives act columns push pop top
 returns c =
     on_ok_weaker c.put_module.result
-    (λ e tokens.
-    acted WithImport
-    (took (One item.Import) (c.take_import-import.ensures.value tokens) (c.take_import-import.ensures.rest tokens)
-    (took (One item.Module) (c.take_module-built.ensures.value tokens) (c.take_module-built.ensures.rest tokens)
-    (done tokens _)))
-    (ap (λ (z : List Import). record {
-      head = record {
-        header = (built_module tokens c.take_module-built.result).head.header;
-        imports = map (import_view tokens) z;
-      };
-      declarations = (built_module tokens c.take_module-built.result).declarations;
-    }) c.in_ok-put.ensures) (e tokens)) c.put_module.ensures
+    (λ h tokens.
+    let t = columns tokens c.stacks.inside.held in
+    let m = built_module tokens c.take_module-built.result in
+    h tokens ∙
+    (ap₂ (λ y z. push (One item.Module) (record { head = record { header = m.head.header; imports = y }; declarations = m.declarations }) (record t { imports = z }))
+    (seen_moved (import_view tokens) (reverse c.stacks.inside.held.imports.items) c.in_ok-move_to.ensures.1
+    (c.no_import.ensures tokens))
+    (seen_tail (import_view tokens) (reverse c.stacks.inside.held.imports.items) c.in_ok-move_to.ensures.0) ∙
+    ap₂ (λ y z. push (One item.Module) (with_import (top tokens (One item.Import) z) y) (pop (One item.Import) z))
+    (c.take_module-built.ensures.value tokens)
+    (ap (columns tokens) c.stacks.view_is ∙ c.take_module-built.ensures.rest tokens)))
+    c.put_module.ensures

@@ -1,6 +1,8 @@
 -- The view of the new column.
-use Rattle.std.proofs.Common.{map, ap}
+use Rattle.std.proofs.Common.{ap, map, ◌∙◌}
 use Rattle.std.proofs.lemmas.Result.{on_ok_weaker}
+use Rattle.elm_grammar.specs.declared.action.Item.TheVariants as item
+use Rattle.elm_grammar.specs.Values.{One}
 use Rattle.elm_values.specs.Stack.{begun_view, columns, push}
 use Rattle.elm_values.proofs.stack.put_pattern.Goals as goal
 
@@ -8,4 +10,7 @@ pub returns : goal.returns
 unfolding columns push
 returns c =
     on_ok_weaker c.put.result
-    (λ h tokens. ap (λ z. record (columns tokens c.args.stacks.now) { patterns = map (begun_view tokens) z }) h) c.put.ensures
+    (λ h tokens.
+    ap (λ z. record (columns tokens c.stacks.inside.held) { patterns = map (begun_view tokens) z }) h ∙
+    ap (λ z. push (One item.Pattern) (begun_view tokens c.args.pattern) (columns tokens z)) c.stacks.view_is)
+    c.put.ensures

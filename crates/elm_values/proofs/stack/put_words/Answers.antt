@@ -1,7 +1,9 @@
 -- The view of the new column.
-use Rattle.std.proofs.Common.{map, ap}
+use Rattle.std.proofs.Common.{ap, map, ◌∙◌}
 use Rattle.std.proofs.lemmas.Result.{on_ok_weaker}
 use Rattle.elm_tree.specs.View.{token_view}
+use Rattle.elm_grammar.specs.declared.action.Item.TheVariants as item
+use Rattle.elm_grammar.specs.Values.{Many}
 use Rattle.elm_values.specs.Stack.{columns, held, push}
 use Rattle.elm_values.proofs.stack.put_words.Goals as goal
 
@@ -9,4 +11,7 @@ pub returns : goal.returns
 unfolding columns push
 returns c =
     on_ok_weaker c.put.result
-    (λ h tokens. ap (λ z. record (columns tokens c.args.stacks.now) { word_lists = map (λ xs. held (token_view tokens) xs.items) z }) h) c.put.ensures
+    (λ h tokens.
+    ap (λ z. record (columns tokens c.stacks.inside.held) { word_lists = map (λ xs. held (token_view tokens) xs.items) z }) h ∙
+    ap (λ z. push (Many item.Word) (held (token_view tokens) c.args.words.items) (columns tokens z)) c.stacks.view_is)
+    c.put.ensures

@@ -1,6 +1,8 @@
 -- What is taken is the first of the column (`seen_head`), and the others stay (`seen_tail`).
-use Rattle.std.proofs.Common.{reverse, refl, ap}
+use Rattle.std.proofs.Common.{ap, refl, reverse, ◌∙◌}
 use Rattle.elm_tree.specs.View.{token_view}
+use Rattle.elm_grammar.specs.declared.action.Item.TheVariants as item
+use Rattle.elm_grammar.specs.Values.{One}
 use Rattle.elm_values.specs.Stack.{columns, pop, top}
 use Rattle.elm_values.proofs.Columns.{seen_head, seen_tail}
 use Rattle.elm_values.proofs.stack.take_word.Goals as goal
@@ -8,10 +10,12 @@ use Rattle.elm_values.proofs.stack.take_word.Goals as goal
 pub returns-clause-value : goal.returns-clause-value
 unfolding columns top
 returns-clause-value c = λ tokens.
-    seen_head (token_view tokens) (reverse c.args.stacks.now.words.items) c.take_or.ensures.value refl
+    seen_head (token_view tokens) (reverse c.stacks.inside.held.words.items) c.take_or.ensures.value refl ∙
+    ap (λ z. top tokens (One item.Word) (columns tokens z)) c.stacks.view_is
 
 pub returns-clause-rest : goal.returns-clause-rest
 unfolding columns pop
 returns-clause-rest c = λ tokens.
-    ap (λ z. record (columns tokens c.args.stacks.now) { words = z })
-    (seen_tail (token_view tokens) (reverse c.args.stacks.now.words.items) c.take_or.ensures.rest)
+    ap (λ z. record (columns tokens c.stacks.inside.held) { words = z })
+    (seen_tail (token_view tokens) (reverse c.stacks.inside.held.words.items) c.take_or.ensures.rest) ∙
+    ap (λ z. pop (One item.Word) (columns tokens z)) c.stacks.view_is

@@ -1,26 +1,24 @@
 -- What is taken off the stacks in turn (`took`) gives way to what is made of it (`acted`).
-use Rattle.std.proofs.Common.{map, refl, ap, ◌∙◌, ◌∷◌}
+use Rattle.std.proofs.Common.{refl}
 use Rattle.std.proofs.lemmas.Result.{on_ok_weaker}
-use Rattle.elm_tree.specs.View.{field_type_view}
-use Rattle.elm_grammar.specs.declared.action.Item.TheVariants as item
 use Rattle.elm_grammar.specs.declared.action.Action.TheVariants.{MoreFieldTypes}
+use Rattle.elm_grammar.specs.declared.action.Item.TheVariants as item
 use Rattle.elm_grammar.specs.Values.{Many, One, act, gives, takes}
-use Rattle.elm_values.specs.Stack.{held}
+use Rattle.elm_values.specs.Stack.{columns, pop, push, top}
 use Rattle.elm_values.proofs.Acting.{acted, done, took}
 use Rattle.elm_values.proofs.types.more_fields.Goals as goal
 
 pub returns : goal.returns
-unfolding takes gives act
+unfolding takes gives act push pop top
 returns c =
-    on_ok_weaker c.put_field_types.result
+    on_ok_weaker c.put_field_type.result
     (λ e tokens.
     acted MoreFieldTypes
-    (took (One item.Word) refl (c.skip_word.ensures tokens)
+    (took {s = columns tokens c.args.stacks.now} (One item.Word) refl (c.skip_word.ensures tokens)
     (took (One item.Word) (c.take_word-name.ensures.value tokens) (c.take_word-name.ensures.rest tokens)
     (took (One item.Word) refl (c.skip_word-2.ensures tokens)
-    (took (One item.TypeTree) (c.take_type-written.ensures.value tokens) (c.take_type-written.ensures.rest tokens)
-    (took (Many item.FieldType) (c.take_field_types-others.ensures.value tokens)
-    (c.take_field_types-others.ensures.rest tokens) (done tokens _))))))
-    (ap (map (field_type_view tokens)) c.in_ok-put.ensures ∙
-    ap (λ z. z ∷ held (field_type_view tokens) c.take_field_types-others.result.items)
-    (c.field_type-field.ensures tokens)) (e tokens)) c.put_field_types.ensures
+    (took (One item.TypeTree) refl refl
+    (took (Many item.FieldType) refl refl
+    (done tokens _))))))
+    refl (e tokens))
+    c.put_field_type.ensures

@@ -25,8 +25,8 @@ loop-last-preserved c x =
     ∙ (lookup_last (same_ref x) rest last old
     ∙ ap (option_or (lookup (same_ref x) rest)) (sym (c.in_ok-insert.ensures x)))))
 
-pub returns : goal.returns
-returns c x =
+pub returns-clause-types : goal.returns-clause-types
+returns-clause-types c x =
     sym (c.loop-last.invariant x
     ∙ ap (λ l. option_or (lookup (same_ref x) (told_views l)) (schemes_of c.loop-last.types x))
     (none_left c.loop-last.rest.items (omega (arith, c.loop-last.rest.ok.0, c.in_default.ensures.cases.0))))

@@ -1,5 +1,5 @@
 -- The annotation is asked of what is around, and then its type: `read_is`.
-use Rattle.std.proofs.Common.{◌≡◌, ℕ, map, sym, subst}
+use Rattle.std.proofs.Common.{◌≡◌, ℕ, ap, map, sym, subst}
 use Rattle.elm_canon.specs.Tree.{Annotation}
 use Rattle.elm_canon.specs.View.{annotation_view}
 use Rattle.elm_type.specs.View.{kind_view, type_view}
@@ -20,21 +20,21 @@ pub returns-clause-read : goal.returns-clause-read
 returns-clause-read c =
     let code = code_of c.args.scope.now in
     let t = annotation_view c.args.annotation.now in
-    let xs = c.in_ok-names.field-0.names.items in
-    let ks = map kind_view c.in_ok-names.field-0.scheme.kinds.items in
-    let u = type_view c.in_ok-names.field-0.scheme.ty in
+    let xs = c.in_ok-written.written.names.items in
+    let ks = map kind_view c.in_ok-written.written.scheme.kinds.items in
+    let u = type_view c.in_ok-written.written.scheme.ty in
     let old = here c.args.state.now in
     let new = here c.ask_around.new.state in
     let is : IsAnnotation t xs ks u = record {
-      names = c.in_ok-names.ensures.names;
-      kinds = c.in_ok-names.ensures.kinds;
-      type = c.in_ok-names.ensures.ty;
+      names = c.in_ok-written.ensures.names;
+      kinds = c.in_ok-written.ensures.kinds;
+      type = c.in_ok-written.ensures.ty;
       once = c.requires.once;
     } in
-    let first : c.deref.result.now ≡ xs = cc (c.deref.ensures.value, c.in_ok-names.names-is) in
-    let second : map kind_view c.deref-2.result.now ≡ ks = cc (c.deref-2.ensures.value, c.in_ok-names.scheme-is) in
-    let third : c.deref-3.result.now ≡ xs = cc (c.deref-3.ensures.value, c.in_ok-names.names-is) in
-    let fourth : map kind_view c.deref-4.result.now ≡ ks = cc (c.deref-4.ensures.value, c.in_ok-names.scheme-is) in
+    let first : c.deref.result.now ≡ xs = c.deref.ensures.value in
+    let second : map kind_view c.deref-2.result.now ≡ ks = ap (map kind_view) c.deref-2.ensures.value in
+    let third : c.deref-3.result.now ≡ xs = c.deref-3.ensures.value in
+    let fourth : map kind_view c.deref-4.result.now ≡ ks = ap (map kind_view) c.deref-4.ensures.value in
     let asks : AsksAround code old new c.args.position xs ks =
     subst (λ ys. AsksAround code old new c.args.position ys ks) first
     (subst (λ ls. AsksAround code old new c.args.position c.deref.result.now ls) second c.in-Ok.ensures.asks) in

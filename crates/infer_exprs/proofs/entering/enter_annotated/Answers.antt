@@ -21,12 +21,12 @@ pub open_annotated-requires-clause-apart : goal.open_annotated-requires-clause-a
 open_annotated-requires-clause-apart c =
     let code = code_of c.args.scope.now in
     let t = annotation_view c.args.annotation.now in
-    let own : AreOwnOf code t c.in_ok-own_names.field-0.names.items (map kind_view c.deref-3.result.now) =
-    own_is code t c.in_ok-own.own.items c.deref.result.now c.in_ok-own_names.field-0.names.items
+    let own : AreOwnOf code t c.in_ok-parts.parts.names.items (map kind_view c.deref-3.result.now) =
+    own_is code t c.in_ok-own.own.items c.deref.result.now c.in_ok-parts.parts.names.items
     (map kind_view c.deref-2.result.now) (map kind_view c.deref-3.result.now) c.in_ok-own.ensures
-    (cc (c.deref.ensures.value, c.in_ok-names.names-is, c.in_ok-names.ensures.names))
-    (cc (c.deref-2.ensures.value, c.in_ok-names.scheme-is, c.in_ok-names.ensures.kinds)) c.in_ok-own_names.ensures.names
-    (cc (c.deref-3.ensures.value, c.in_ok-own_names.kinds-is, c.in_ok-own_names.ensures.kinds)) in
+    (c.deref.ensures.value ∙ c.in_ok-written.ensures.names)
+    (ap (map kind_view) c.deref-2.ensures.value ∙ c.in_ok-written.ensures.kinds) c.in_ok-parts.ensures.names
+    (ap (map kind_view) c.deref-3.ensures.value ∙ c.in_ok-parts.ensures.kinds) in
     subst AreApart (sym own.names) (own_apart code t)
 
 pub fixed-requires-clause-ready : goal.fixed-requires-clause-ready
@@ -35,12 +35,12 @@ fixed-requires-clause-ready c =
     let t = annotation_view c.args.annotation.now in
     let old = here c.args.state.now in
     let mid = here c.open_annotated.new.state in
-    let own : AreOwnOf code t c.in_ok-own_names.field-0.names.items (map kind_view c.deref-3.result.now) =
-    own_is code t c.in_ok-own.own.items c.deref.result.now c.in_ok-own_names.field-0.names.items
+    let own : AreOwnOf code t c.in_ok-parts.parts.names.items (map kind_view c.deref-3.result.now) =
+    own_is code t c.in_ok-own.own.items c.deref.result.now c.in_ok-parts.parts.names.items
     (map kind_view c.deref-2.result.now) (map kind_view c.deref-3.result.now) c.in_ok-own.ensures
-    (cc (c.deref.ensures.value, c.in_ok-names.names-is, c.in_ok-names.ensures.names))
-    (cc (c.deref-2.ensures.value, c.in_ok-names.scheme-is, c.in_ok-names.ensures.kinds)) c.in_ok-own_names.ensures.names
-    (cc (c.deref-3.ensures.value, c.in_ok-own_names.kinds-is, c.in_ok-own_names.ensures.kinds)) in
+    (c.deref.ensures.value ∙ c.in_ok-written.ensures.names)
+    (ap (map kind_view) c.deref-2.ensures.value ∙ c.in_ok-written.ensures.kinds) c.in_ok-parts.ensures.names
+    (ap (map kind_view) c.deref-3.ensures.value ∙ c.in_ok-parts.ensures.kinds) in
     subst (λ k. IsReady k mid.depth mid.store) (sym (c.in_ok-inside.ensures.scope t own))
     (c.opening_law.ensures.ready code t c.args.number c.in_ok-inside.inside.slots.items old mid
     (c.in_ok-inside.ensures.opens t own))
@@ -50,14 +50,14 @@ fixed-requires-clause-around c =
     let code = code_of c.args.scope.now in
     let t = annotation_view c.args.annotation.now in
     let old = here c.args.state.now in
-    let own : AreOwnOf code t c.in_ok-own_names.field-0.names.items (map kind_view c.deref-3.result.now) =
-    own_is code t c.in_ok-own.own.items c.deref.result.now c.in_ok-own_names.field-0.names.items
+    let own : AreOwnOf code t c.in_ok-parts.parts.names.items (map kind_view c.deref-3.result.now) =
+    own_is code t c.in_ok-own.own.items c.deref.result.now c.in_ok-parts.parts.names.items
     (map kind_view c.deref-2.result.now) (map kind_view c.deref-3.result.now) c.in_ok-own.ensures
-    (cc (c.deref.ensures.value, c.in_ok-names.names-is, c.in_ok-names.ensures.names))
-    (cc (c.deref-2.ensures.value, c.in_ok-names.scheme-is, c.in_ok-names.ensures.kinds)) c.in_ok-own_names.ensures.names
-    (cc (c.deref-3.ensures.value, c.in_ok-own_names.kinds-is, c.in_ok-own_names.ensures.kinds)) in
+    (c.deref.ensures.value ∙ c.in_ok-written.ensures.names)
+    (ap (map kind_view) c.deref-2.ensures.value ∙ c.in_ok-written.ensures.kinds) c.in_ok-parts.ensures.names
+    (ap (map kind_view) c.deref-3.ensures.value ∙ c.in_ok-parts.ensures.kinds) in
     let there : c.deref-4.result.now ≡ variables_of t =
-    cc (c.deref-4.ensures.value, c.in_ok-names.names-is, c.in_ok-names.ensures.names) in
+    c.deref-4.ensures.value ∙ c.in_ok-written.ensures.names in
     subst (λ k. AllByRecursion (HasConstant k) c.deref-4.result.now) (sym (c.in_ok-inside.ensures.scope t own))
     (subst (λ ys. AllByRecursion (HasConstant (inside_of code t (child old.place c.args.number)
     c.in_ok-inside.inside.slots.items)) ys) (sym there)
@@ -72,17 +72,17 @@ returns-in-Ok-clause-opens c =
     let mid = here c.open_annotated.new.state in
     let new = here c.fixed.new.state in
     let vs = c.in_ok-inside.inside.slots.items in
-    let own : AreOwnOf code t c.in_ok-own_names.field-0.names.items (map kind_view c.deref-3.result.now) =
-    own_is code t c.in_ok-own.own.items c.deref.result.now c.in_ok-own_names.field-0.names.items
+    let own : AreOwnOf code t c.in_ok-parts.parts.names.items (map kind_view c.deref-3.result.now) =
+    own_is code t c.in_ok-own.own.items c.deref.result.now c.in_ok-parts.parts.names.items
     (map kind_view c.deref-2.result.now) (map kind_view c.deref-3.result.now) c.in_ok-own.ensures
-    (cc (c.deref.ensures.value, c.in_ok-names.names-is, c.in_ok-names.ensures.names))
-    (cc (c.deref-2.ensures.value, c.in_ok-names.scheme-is, c.in_ok-names.ensures.kinds)) c.in_ok-own_names.ensures.names
-    (cc (c.deref-3.ensures.value, c.in_ok-own_names.kinds-is, c.in_ok-own_names.ensures.kinds)) in
+    (c.deref.ensures.value ∙ c.in_ok-written.ensures.names)
+    (ap (map kind_view) c.deref-2.ensures.value ∙ c.in_ok-written.ensures.kinds) c.in_ok-parts.ensures.names
+    (ap (map kind_view) c.deref-3.ensures.value ∙ c.in_ok-parts.ensures.kinds) in
     let is : IsAnnotation t c.deref-4.result.now (map kind_view c.deref-5.result.now)
-    (type_view c.in_ok-names.field-0.scheme.ty) = record {
-      names = cc (c.deref-4.ensures.value, c.in_ok-names.names-is, c.in_ok-names.ensures.names);
-      kinds = cc (c.deref-5.ensures.value, c.in_ok-names.scheme-is, c.in_ok-names.ensures.kinds);
-      type = c.in_ok-names.ensures.ty;
+    (type_view c.in_ok-written.written.scheme.ty) = record {
+      names = c.deref-4.ensures.value ∙ c.in_ok-written.ensures.names;
+      kinds = ap (map kind_view) c.deref-5.ensures.value ∙ c.in_ok-written.ensures.kinds;
+      type = c.in_ok-written.ensures.ty;
       once = c.requires.once;
     } in
     let inside = c.in_ok-inside.ensures.scope t own in
@@ -101,12 +101,12 @@ pub returns-in-Ok-clause-names : goal.returns-in-Ok-clause-names
 returns-in-Ok-clause-names c =
     let code = code_of c.args.scope.now in
     let t = annotation_view c.args.annotation.now in
-    let own : AreOwnOf code t c.in_ok-own_names.field-0.names.items (map kind_view c.deref-3.result.now) =
-    own_is code t c.in_ok-own.own.items c.deref.result.now c.in_ok-own_names.field-0.names.items
+    let own : AreOwnOf code t c.in_ok-parts.parts.names.items (map kind_view c.deref-3.result.now) =
+    own_is code t c.in_ok-own.own.items c.deref.result.now c.in_ok-parts.parts.names.items
     (map kind_view c.deref-2.result.now) (map kind_view c.deref-3.result.now) c.in_ok-own.ensures
-    (cc (c.deref.ensures.value, c.in_ok-names.names-is, c.in_ok-names.ensures.names))
-    (cc (c.deref-2.ensures.value, c.in_ok-names.scheme-is, c.in_ok-names.ensures.kinds)) c.in_ok-own_names.ensures.names
-    (cc (c.deref-3.ensures.value, c.in_ok-own_names.kinds-is, c.in_ok-own_names.ensures.kinds)) in
+    (c.deref.ensures.value ∙ c.in_ok-written.ensures.names)
+    (ap (map kind_view) c.deref-2.ensures.value ∙ c.in_ok-written.ensures.kinds) c.in_ok-parts.ensures.names
+    (ap (map kind_view) c.deref-3.ensures.value ∙ c.in_ok-parts.ensures.kinds) in
     c.in_ok-inside.ensures.names ∙ own.names
 
 pub returns-clause-stops : goal.returns-clause-stops
@@ -117,17 +117,17 @@ returns-clause-stops c b e d at =
     let mid = here c.open_annotated.new.state in
     let new = here c.fixed.new.state in
     let vs = c.in_ok-inside.inside.slots.items in
-    let own : AreOwnOf code t c.in_ok-own_names.field-0.names.items (map kind_view c.deref-3.result.now) =
-    own_is code t c.in_ok-own.own.items c.deref.result.now c.in_ok-own_names.field-0.names.items
+    let own : AreOwnOf code t c.in_ok-parts.parts.names.items (map kind_view c.deref-3.result.now) =
+    own_is code t c.in_ok-own.own.items c.deref.result.now c.in_ok-parts.parts.names.items
     (map kind_view c.deref-2.result.now) (map kind_view c.deref-3.result.now) c.in_ok-own.ensures
-    (cc (c.deref.ensures.value, c.in_ok-names.names-is, c.in_ok-names.ensures.names))
-    (cc (c.deref-2.ensures.value, c.in_ok-names.scheme-is, c.in_ok-names.ensures.kinds)) c.in_ok-own_names.ensures.names
-    (cc (c.deref-3.ensures.value, c.in_ok-own_names.kinds-is, c.in_ok-own_names.ensures.kinds)) in
+    (c.deref.ensures.value ∙ c.in_ok-written.ensures.names)
+    (ap (map kind_view) c.deref-2.ensures.value ∙ c.in_ok-written.ensures.kinds) c.in_ok-parts.ensures.names
+    (ap (map kind_view) c.deref-3.ensures.value ∙ c.in_ok-parts.ensures.kinds) in
     let is : IsAnnotation t c.deref-4.result.now (map kind_view c.deref-5.result.now)
-    (type_view c.in_ok-names.field-0.scheme.ty) = record {
-      names = cc (c.deref-4.ensures.value, c.in_ok-names.names-is, c.in_ok-names.ensures.names);
-      kinds = cc (c.deref-5.ensures.value, c.in_ok-names.scheme-is, c.in_ok-names.ensures.kinds);
-      type = c.in_ok-names.ensures.ty;
+    (type_view c.in_ok-written.written.scheme.ty) = record {
+      names = c.deref-4.ensures.value ∙ c.in_ok-written.ensures.names;
+      kinds = ap (map kind_view) c.deref-5.ensures.value ∙ c.in_ok-written.ensures.kinds;
+      type = c.in_ok-written.ensures.ty;
       once = c.requires.once;
     } in
     c.fixing_law.ensures.stops code d t c.args.number vs old mid new (bad_view b) (c.in_ok-inside.ensures.opens t own)

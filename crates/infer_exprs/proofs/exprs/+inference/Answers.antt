@@ -3,7 +3,8 @@ use Rattle.std.proofs.Common.{get_or, refl, sym, ap, ◌∙◌, subst, arith, �
 use Rattle.std.proofs.Common.{false}
 use Rattle.std.proofs.lemmas.Grind.{common_steps}
 use Rattle.std.proofs.lemmas.List.{length-map, length-append, map-append, append_assoc, append-nil, drop_all}
-use Rattle.std.proofs.lemmas.Result.{err_from_is_err_and, on_ok_weaker}
+use Rattle.std.proofs.lemmas.Result.{IfOk-weaker, err_from_is_err_and, on_ok_weaker}
+use Rattle.elm_canon.specs.declared.tree.Connective.{Connective}
 use Rattle.std.specs.List.{AllByRecursion}
 use Rattle.elm_canon.specs.Tree.{Apply, Strict, exprs_of, patterns_of, branches_of, groups_of}
 use Rattle.elm_canon.specs.View.{Given, Composed, After, Before, Decided, expr_view, pattern_view, op_view, link_view}
@@ -185,7 +186,7 @@ close_link-walk_operand-requires t c =
     (Composed (expr_view c.in-Composed.field-0) (expr_view c.in-Composed.argument)) r.own r.before r.wanted r.inside
     r.variable k (here c.args.state.now) r.follows)) in
     let count_ = ap length same.1 ∙ k.count in (
-      first_of (search (rules, the_lemmas, c.decreases), search rules, omega (arith, c.decreases)),
+      first_of (omega (arith, c.decreases), search (rules, the_lemmas, c.decreases), search rules),
       (
         can_,
         (
@@ -255,13 +256,8 @@ close_link-returns-in-Composed-clause-stopped t c = λ b x others own2 before w 
 
 pub close_link-go_on-requires-clause-whole : goal.close_link-go_on-requires-clause-whole
 close_link-go_on-requires-clause-whole t c =
-    let rest = map (λ vs. vs.items) c.pop.new.self.items in
     let own = c.in-Some.own.items in
-    let was : map (λ vs. vs.items) c.args.kept.now.items ≡ rest ++ own ∷ [] =
-    ap (map (λ vs. vs.items)) c.in-Some.ensures.items ∙ map-append (λ vs. vs.items) c.pop.new.self.items
-    (c.in-Some.own ∷ []) in
     let r = c.requires.open in
-    let same = last_same rest r.others own r.own (sym was ∙ r.is) in
     let k = subst (λ l. IsInside (code_of c.args.scope.now) c.args.position l r.own r.before r.wanted r.inside
     r.variable) (ap link_view c.in-After.is ∙ view.part_after c.in-After.op c.in-After.parts) r.opens in
     let left = c.leave_both-in-After.ensures (moved (here c.args.state.now) k.outside.place) 0
@@ -273,12 +269,6 @@ close_link-go_on-requires-clause-whole t c =
     (back_can (code_of c.args.scope.now) c.args.position
     (After (op_view c.in-After.op) (map expr_view c.in-After.parts.items)) r.own r.before r.wanted r.inside r.variable k
     (here c.args.state.now) r.follows) in
-    let live_ = subst (λ (s : State). AllByRecursion (Live s.depth s.store) own) (sym left)
-    (subst (AllByRecursion (Live (here c.args.state.now).depth (here c.args.state.now).store)) (sym same.1)
-    (back_live (code_of c.args.scope.now) c.args.position
-    (After (op_view c.in-After.op) (map expr_view c.in-After.parts.items)) r.own r.before r.wanted r.inside r.variable k
-    (here c.args.state.now) r.follows)) in
-    let count_ = ap length same.1 ∙ k.count in
     can_.ready.whole
 
 pub close_link-go_on-requires-clause-once : goal.close_link-go_on-requires-clause-once
@@ -331,16 +321,11 @@ close_link-go_on-requires-clause-live t c =
     (back_there (code_of c.args.scope.now) c.args.position
     (After (op_view c.in-After.op) (map expr_view c.in-After.parts.items)) r.own r.before r.wanted r.inside r.variable k
     (here c.args.state.now) r.follows) in
-    let can_ = subst (CanWalk (code_of c.args.scope.now)) (sym left)
-    (back_can (code_of c.args.scope.now) c.args.position
-    (After (op_view c.in-After.op) (map expr_view c.in-After.parts.items)) r.own r.before r.wanted r.inside r.variable k
-    (here c.args.state.now) r.follows) in
     let live_ = subst (λ (s : State). AllByRecursion (Live s.depth s.store) own) (sym left)
     (subst (AllByRecursion (Live (here c.args.state.now).depth (here c.args.state.now).store)) (sym same.1)
     (back_live (code_of c.args.scope.now) c.args.position
     (After (op_view c.in-After.op) (map expr_view c.in-After.parts.items)) r.own r.before r.wanted r.inside r.variable k
     (here c.args.state.now) r.follows)) in
-    let count_ = ap length same.1 ∙ k.count in
     live_
 
 pub close_link-returns-in-After-clause-closed : goal.close_link-returns-in-After-clause-closed
@@ -401,13 +386,8 @@ close_link-returns-in-After-clause-stopped t c = λ b x others own2 before w ins
 
 pub close_link-go_on-requires-in-Before-clause-whole : goal.close_link-go_on-requires-in-Before-clause-whole
 close_link-go_on-requires-in-Before-clause-whole t c =
-    let rest = map (λ vs. vs.items) c.pop.new.self.items in
     let own = c.in-Some.own.items in
-    let was : map (λ vs. vs.items) c.args.kept.now.items ≡ rest ++ own ∷ [] =
-    ap (map (λ vs. vs.items)) c.in-Some.ensures.items ∙ map-append (λ vs. vs.items) c.pop.new.self.items
-    (c.in-Some.own ∷ []) in
     let r = c.requires.open in
-    let same = last_same rest r.others own r.own (sym was ∙ r.is) in
     let k = subst (λ l. IsInside (code_of c.args.scope.now) c.args.position l r.own r.before r.wanted r.inside
     r.variable) (ap link_view c.in-Before.is ∙ view.part_before c.in-Before.op c.in-Before.part) r.opens in
     let left = c.leave_both-in-Before.ensures (moved (here c.args.state.now) k.outside.place) 0 0
@@ -417,11 +397,6 @@ close_link-go_on-requires-in-Before-clause-whole t c =
     let can_ = subst (CanWalk (code_of c.args.scope.now)) (sym left)
     (back_can (code_of c.args.scope.now) c.args.position (Before (op_view c.in-Before.op) (expr_view c.in-Before.part))
     r.own r.before r.wanted r.inside r.variable k (here c.args.state.now) r.follows) in
-    let live_ = subst (λ (s : State). AllByRecursion (Live s.depth s.store) own) (sym left)
-    (subst (AllByRecursion (Live (here c.args.state.now).depth (here c.args.state.now).store)) (sym same.1)
-    (back_live (code_of c.args.scope.now) c.args.position (Before (op_view c.in-Before.op) (expr_view c.in-Before.part))
-    r.own r.before r.wanted r.inside r.variable k (here c.args.state.now) r.follows)) in
-    let count_ = ap length same.1 ∙ k.count in
     can_.ready.whole
 
 pub close_link-go_on-requires-in-Before-clause-once : goal.close_link-go_on-requires-in-Before-clause-once
@@ -469,14 +444,10 @@ close_link-go_on-requires-in-Before-clause-live t c =
     (back_there (code_of c.args.scope.now) c.args.position
     (Before (op_view c.in-Before.op) (expr_view c.in-Before.part)) r.own r.before r.wanted r.inside r.variable k
     (here c.args.state.now) r.follows) in
-    let can_ = subst (CanWalk (code_of c.args.scope.now)) (sym left)
-    (back_can (code_of c.args.scope.now) c.args.position (Before (op_view c.in-Before.op) (expr_view c.in-Before.part))
-    r.own r.before r.wanted r.inside r.variable k (here c.args.state.now) r.follows) in
     let live_ = subst (λ (s : State). AllByRecursion (Live s.depth s.store) own) (sym left)
     (subst (AllByRecursion (Live (here c.args.state.now).depth (here c.args.state.now).store)) (sym same.1)
     (back_live (code_of c.args.scope.now) c.args.position (Before (op_view c.in-Before.op) (expr_view c.in-Before.part))
     r.own r.before r.wanted r.inside r.variable k (here c.args.state.now) r.follows)) in
-    let count_ = ap length same.1 ∙ k.count in
     live_
 
 pub close_link-returns-in_err-go_on-in-Before-clause-stopped :
@@ -557,7 +528,7 @@ close_link-walk_operand-requires-in-Before t c =
     let count_ = ap length same.1 ∙ k.count in
     let two_ = c.in_ok-go_on-in-Before.ensures.number ∙ next_count (op_view c.in-Before.op) 1 0 (length own) k.strict.1
     count_ in (
-      first_of (search (rules, the_lemmas, c.decreases), search rules, omega (arith, c.decreases)),
+      first_of (omega (arith, c.decreases), search (rules, the_lemmas, c.decreases), search rules),
       (
         can_on (code_of c.args.scope.now) (here c.leave_both-in-Before.new.state) (here c.go_on-in-Before.new.state)
             can_
@@ -666,7 +637,7 @@ open_link-walk_arguments-requires t c =
     let f = (subst FormedLink (ap link_view c.in-Given.is ∙ view.given c.in-Given.callee c.in-Given.arguments)
     c.requires.formed) in
     let d = ap length c.deref.ensures.value in (
-      first_of (search (rules, the_lemmas, c.decreases), search rules, omega (arith, c.decreases)),
+      first_of (omega (arith, c.decreases), search (rules, the_lemmas, c.decreases), search rules),
       (
         can_then (code_of c.args.scope.now) (code_of c.walk_callee.new.scope) (here c.args.state.now)
             (here c.walk_callee.new.state) c.in_ok-variables-in-Given.ensures.scope c.requires.can
@@ -697,7 +668,7 @@ open_link-returns-in_err-variables-in-Given-clause-stopped t c = λ b e y. (
 
 pub open_link-walk_callee-requires : goal.open_link-walk_callee-requires
 open_link-walk_callee-requires t c = (
-  first_of (search (rules, the_lemmas, c.decreases), search rules, omega (arith, c.decreases)),
+  first_of (omega (arith, c.decreases), search (rules, the_lemmas, c.decreases), search rules),
   (
     c.requires.can,
     (
@@ -707,122 +678,6 @@ open_link-walk_callee-requires t c = (
     ),
   ),
 )
-
-pub open_link-returns-in_err-variables-in-Composed-clause-stopped :
-    goal.open_link-returns-in_err-variables-in-Composed-clause-stopped
-open_link-returns-in_err-variables-in-Composed-clause-stopped t c = λ b e y. (
-    let p = err_from_is_err_and c.from_residual-in_err-variables-in-Composed.result
-    c.from_residual-in_err-variables-in-Composed.ensures.1 in
-    shown_stuck (code_of c.args.scope.now) c.args.wanted c.args.position (here c.args.state.now)
-    (here c.walk_callee-in-Composed.new.state) (bad_view b) _ _
-    (ap (λ l. done l y) (ap link_view c.in-Composed.is ∙ view.composed c.in-Composed.callee c.in-Composed.field-1))
-    (c.in_err-variables-in-Composed.ensures.stopped b (other_error _ _ (rw (p.1, p.2) at e))
-    (y ∷ expr_view c.in-Composed.field-1 ∷ []) refl))
-
-pub open_link-walk_parts-requires : goal.open_link-walk_parts-requires
-open_link-walk_parts-requires t c =
-    let f = (subst FormedLink (ap link_view c.in-After.is ∙ view.part_after c.in-After.op c.in-After.parts)
-    c.requires.formed) in
-    let same = ap length c.deref-in-After.ensures.value in
-    let count = length-map c.in-After.parts.items expr_view in
-    let e : suc (length (map expr_view c.in-After.parts.items)) ≡ c.len-count-in-After.result + 1 = omega
-    (arith, count, c.len-count-in-After.ensures) in (
-      first_of (search (rules, the_lemmas, c.decreases), search rules, omega (arith, c.decreases)),
-      (
-        c.requires.can,
-        (
-          subst (FormedOp (op_view c.in-After.op)) e f.0,
-          (
-            subst (λ xs. AllFormed (exprs_of (map expr_view xs))) (sym c.deref-in-After.ensures.value) f.1,
-            (
-              omega (arith, same, c.len-count-in-After.ensures),
-              c.requires.wanted,
-            ),
-          ),
-        ),
-      ),
-    )
-
-pub open_link-returns-in_err-variables-in-After-clause-stopped :
-    goal.open_link-returns-in_err-variables-in-After-clause-stopped
-open_link-returns-in_err-variables-in-After-clause-stopped t c = λ b e y. (
-    let p = err_from_is_err_and c.from_residual-in_err-variables-in-After.result
-    c.from_residual-in_err-variables-in-After.ensures.1 in
-    shown_stuck (code_of c.args.scope.now) c.args.wanted c.args.position (here c.args.state.now)
-    (here c.walk_parts.new.state) (bad_view b) _ _
-    (ap (λ l. done l y) (ap link_view c.in-After.is ∙ view.part_after c.in-After.op c.in-After.parts) ∙ ap
-    (λ xs. Strict (op_view c.in-After.op) (exprs_of (map expr_view xs ++ y ∷ []))) (sym c.deref-in-After.ensures.value))
-    (c.in_err-variables-in-After.ensures.stopped b (other_error _ _ (rw (p.1, p.2) at e)) (y ∷ [])
-    (let same = ap length c.deref-in-After.ensures.value in omega (arith, same, c.len-count-in-After.ensures))))
-
-pub open_link-begin_op-requires-clause-known : goal.open_link-begin_op-requires-clause-known
-open_link-begin_op-requires-clause-known t c =
-    subst AreWritten (sym c.known.ensures) c.requires.can.ready.known
-
-pub open_link-begin_op-requires-clause-once : goal.open_link-begin_op-requires-clause-once
-open_link-begin_op-requires-clause-once t c =
-    (subst FormedLink (ap link_view c.in-Before.is ∙ view.part_before c.in-Before.op c.in-Before.field-1)
-    c.requires.formed).0.0
-
-pub open_link-returns-in_err-variables-in-Before-clause-stopped :
-    goal.open_link-returns-in_err-variables-in-Before-clause-stopped
-open_link-returns-in_err-variables-in-Before-clause-stopped t c = λ b e y. (
-    let p = err_from_is_err_and c.from_residual-in_err-variables-in-Before.result
-    c.from_residual-in_err-variables-in-Before.ensures.1 in
-    shown_stuck (code_of c.args.scope.now) c.args.wanted c.args.position (here c.args.state.now)
-    (here c.begin_op.new.state) (bad_view b) _ _
-    (ap (λ l. done l y) (ap link_view c.in-Before.is ∙ view.part_before c.in-Before.op c.in-Before.field-1))
-    (op_unbegun (code_of c.args.scope.now) c.args.wanted (op_view c.in-Before.op) c.args.position
-    (strict_op c.in-Before.op) (y ∷ expr_view c.in-Before.field-1 ∷ []) 2 (here c.args.state.now)
-    (here c.begin_op.new.state) (bad_view b) refl
-    (c.in_err-variables-in-Before.ensures.stops b (other_error _ _ (rw (p.1, p.2) at e)) (code_of c.args.scope.now)
-    (sym c.known.ensures))))
-
-pub open_link-returns-in_err-operands-in-Decided-clause-stopped :
-    goal.open_link-returns-in_err-operands-in-Decided-clause-stopped
-open_link-returns-in_err-operands-in-Decided-clause-stopped t c = λ b e y. (
-    let p = err_from_is_err_and c.from_residual-in_err-operands-in-Decided.result
-    c.from_residual-in_err-operands-in-Decided.ensures.1 in
-    shown_stuck (code_of c.args.scope.now) c.args.wanted c.args.position (here c.args.state.now)
-    (here c.begin_logical.new.state) (bad_view b) _ _
-    (ap (λ l. done l y) (ap link_view c.in-Decided.is ∙ view.decided c.in-Decided.place c.in-Decided.field-1
-    c.in-Decided.left))
-    (decided_unbegun (code_of c.args.scope.now) c.args.wanted c.in-Decided.place c.args.position c.in-Decided.field-1
-    (expr_view c.in-Decided.left) y (here c.args.state.now)
-    (here c.begin_logical.new.state) (bad_view b)
-    (c.in_err-operands-in-Decided.ensures.stops b (other_error _ _ (rw (p.1, p.2) at e)) (code_of c.args.scope.now))))
-
-pub open_link-walk_part-requires : goal.open_link-walk_part-requires
-open_link-walk_part-requires t c =
-    let b = c.in_ok-operands-in-Decided.ensures.begins (code_of c.args.scope.now) in (
-      first_of (search (rules, the_lemmas, c.decreases), search rules, omega (arith, c.decreases)),
-      (
-        can_then (code_of c.args.scope.now) (code_of c.args.scope.now) (here c.args.state.now)
-            (here c.begin_logical.new.state) refl c.requires.can b.follows,
-        (
-          (subst FormedLink (ap link_view c.in-Decided.is ∙ view.decided c.in-Decided.place c.in-Decided.field-1
-              c.in-Decided.left) c.requires.formed),
-          b.live.0,
-        ),
-      ),
-    )
-
-pub open_link-returns-in_err-walk_part-in-Decided-clause-stopped :
-    goal.open_link-returns-in_err-walk_part-in-Decided-clause-stopped
-open_link-returns-in_err-walk_part-in-Decided-clause-stopped t c = λ b e y. (
-    let b0 = c.in_ok-operands-in-Decided.ensures.begins (code_of c.args.scope.now) in
-    let l = c.in_ok-operands-in-Decided.operands.left in
-    let r = c.in_ok-operands-in-Decided.operands.right in
-    let p = err_from_is_err_and c.from_residual-in_err-walk_part-in-Decided.result
-    c.from_residual-in_err-walk_part-in-Decided.ensures.1 in
-    shown_stuck (code_of c.args.scope.now) c.args.wanted c.args.position (here c.args.state.now)
-    (here c.walk_part.new.state) (bad_view b) _ _
-    (ap (λ x. done x y) (ap link_view c.in-Decided.is ∙ view.decided c.in-Decided.place c.in-Decided.field-1
-    c.in-Decided.left))
-    (left_stuck (code_of c.args.scope.now) c.args.wanted c.in-Decided.place c.args.position c.in-Decided.field-1
-    (expr_view c.in-Decided.left) y l r (here c.args.state.now)
-    (here c.begin_logical.new.state) c.requires.can.ready b0 (here c.walk_part.new.state) (bad_view b)
-    (c.in_err-walk_part-in-Decided.ensures.stopped b (other_error _ _ (rw (p.1, p.2) at e)))))
 
 pub open_link-returns-in_ok-inner-in-Given-clause-opened : goal.open_link-returns-in_ok-inner-in-Given-clause-opened
 open_link-returns-in_ok-inner-in-Given-clause-opened t c =
@@ -863,107 +718,6 @@ open_link-returns-in_ok-inner-in-Given-clause-opened t c =
           c.in_ok-inner-in-Given.ensures.place);
     }
 
-pub open_link-returns-in_ok-inner-in-Composed-clause-opened :
-    goal.open_link-returns-in_ok-inner-in-Composed-clause-opened
-open_link-returns-in_ok-inner-in-Composed-clause-opened t c =
-    let outside_ = here c.walk_callee-in-Composed.new.state in
-    record {
-      own = c.in_ok-variables-in-Composed.variables.items;
-      is = c.in_ok-inner-in-Composed.ensures.kept;
-      inside_is =
-          subst (λ l. IsInside (code_of c.args.scope.now) c.args.position l
-          c.in_ok-variables-in-Composed.variables.items (here c.args.state.now) c.args.wanted
-          (here c.go_inside-in-Composed.new.state) c.in_ok-inner-in-Composed.inner)
-          (sym (ap link_view c.in-Composed.is ∙ view.composed c.in-Composed.callee c.in-Composed.field-1))
-          (composed_inside (code_of c.args.scope.now) c.args.position _ (here c.args.state.now) c.args.wanted
-          (here c.go_inside-in-Composed.new.state) c.in_ok-inner-in-Composed.inner outside_ c.requires.can
-          c.in_ok-variables-in-Composed.ensures.follows c.in_ok-variables-in-Composed.ensures.live
-          (expr_view c.in-Composed.callee)
-          (expr_view c.in-Composed.field-1) c.in_ok-variables-in-Composed.ensures.opened
-          c.in_ok-variables-in-Composed.ensures.number
-          c.in_ok-inner-in-Composed.ensures.variable c.in_ok-inner-in-Composed.ensures.place);
-    }
-
-pub open_link-returns-in_ok-inner-in-After-clause-opened : goal.open_link-returns-in_ok-inner-in-After-clause-opened
-open_link-returns-in_ok-inner-in-After-clause-opened t c =
-    let outside_ = here c.walk_parts.new.state in
-    let m = length-map c.in-After.parts.items expr_view in let count : length (map expr_view c.in-After.parts.items) ≡
-    c.len-count-in-After.result = omega (arith, m, c.len-count-in-After.ensures) in
-    let e : suc (length (map expr_view c.in-After.parts.items)) ≡ c.len-count-in-After.result + 1 = omega (arith, count)
-    in
-    let formed = subst (FormedOp (op_view c.in-After.op)) e
-    (subst FormedLink (ap link_view c.in-After.is ∙ view.part_after c.in-After.op c.in-After.parts) c.requires.formed).0
-    in
-    let number = c.in_ok-variables-in-After.ensures.number ∙ ap
-    (known_count (op_view c.in-After.op) (c.len-count-in-After.result + 1))
-    (let d = ap length c.deref-in-After.ensures.value in let k : length c.deref-in-After.result.now ≡
-    c.len-count-in-After.result = omega (arith, d, c.len-count-in-After.ensures) in k) in
-    record {
-      own = c.in_ok-variables-in-After.variables.items;
-      is = c.in_ok-inner-in-After.ensures.kept;
-      inside_is =
-          subst (λ l. IsInside (code_of c.args.scope.now) c.args.position l c.in_ok-variables-in-After.variables.items
-          (here c.args.state.now) c.args.wanted (here c.go_inside-in-After.new.state) c.in_ok-inner-in-After.inner)
-          (sym (ap link_view c.in-After.is ∙ view.part_after c.in-After.op c.in-After.parts))
-          (after_inside (code_of c.args.scope.now) c.args.position _ (here c.args.state.now) c.args.wanted
-          (here c.go_inside-in-After.new.state) c.in_ok-inner-in-After.inner outside_ c.requires.can
-          c.in_ok-variables-in-After.ensures.follows c.in_ok-variables-in-After.ensures.live (op_view c.in-After.op)
-          (map expr_view c.in-After.parts.items) c.len-count-in-After.result count (strict_op c.in-After.op) formed
-          (subst (λ xs. OpOpens (code_of c.args.scope.now) c.args.wanted (op_view c.in-After.op)
-          (c.len-count-in-After.result + 1) c.args.position (map expr_view xs)
-          c.in_ok-variables-in-After.variables.items (here c.args.state.now) outside_) c.deref-in-After.ensures.value
-          c.in_ok-variables-in-After.ensures.opened)
-          number (enough_at (op_view c.in-After.op) c.len-count-in-After.result _ formed number)
-          c.in_ok-inner-in-After.ensures.variable c.in_ok-inner-in-After.ensures.place);
-    }
-
-pub open_link-returns-in_ok-inner-in-Before-clause-opened : goal.open_link-returns-in_ok-inner-in-Before-clause-opened
-open_link-returns-in_ok-inner-in-Before-clause-opened t c =
-    let outside_ = here c.begin_op.new.state in
-    let b = c.in_ok-variables-in-Before.ensures.begins (code_of c.args.scope.now) (sym c.known.ensures) in
-    record {
-      own = c.in_ok-variables-in-Before.variables.items;
-      is = c.in_ok-inner-in-Before.ensures.kept;
-      inside_is =
-          subst (λ l. IsInside (code_of c.args.scope.now) c.args.position l c.in_ok-variables-in-Before.variables.items
-          (here c.args.state.now) c.args.wanted (here c.go_inside-in-Before.new.state) c.in_ok-inner-in-Before.inner)
-          (sym (ap link_view c.in-Before.is ∙ view.part_before c.in-Before.op c.in-Before.field-1))
-          (before_inside (code_of c.args.scope.now) c.args.position _ (here c.args.state.now) c.args.wanted
-          (here c.go_inside-in-Before.new.state) c.in_ok-inner-in-Before.inner outside_ c.requires.can
-          b.follows b.live (op_view c.in-Before.op) (expr_view c.in-Before.field-1) (strict_op c.in-Before.op)
-          (subst FormedLink (ap link_view c.in-Before.is ∙ view.part_before c.in-Before.op c.in-Before.field-1)
-          c.requires.formed).0
-          (op_begun (code_of c.args.scope.now) c.args.wanted (op_view c.in-Before.op) c.args.position
-          (strict_op c.in-Before.op) 2 c.in_ok-variables-in-Before.variables.items (here c.args.state.now) outside_ b)
-          c.in_ok-variables-in-Before.ensures.number c.in_ok-inner-in-Before.ensures.variable
-          c.in_ok-inner-in-Before.ensures.place);
-    }
-
-pub open_link-returns-in_ok-keep-in-Decided-clause-opened : goal.open_link-returns-in_ok-keep-in-Decided-clause-opened
-open_link-returns-in_ok-keep-in-Decided-clause-opened t c =
-    let b0 = c.in_ok-operands-in-Decided.ensures.begins (code_of c.args.scope.now) in
-    let l = c.in_ok-operands-in-Decided.operands.left in
-    let r = c.in_ok-operands-in-Decided.operands.right in
-    let outside_ = here c.walk_part.new.state in
-    let w = c.in_ok-walk_part-in-Decided.ensures.walked in
-    record {
-      own = c.new.result.items;
-      is = c.in_ok-keep-in-Decided.ensures;
-      inside_is =
-          subst (λ l. IsInside (code_of c.args.scope.now) c.args.position l c.new.result.items (here c.args.state.now)
-          c.args.wanted (here c.enter.new.self) r)
-          (sym (ap link_view c.in-Decided.is ∙ view.decided c.in-Decided.place c.in-Decided.field-1 c.in-Decided.left))
-          (decided_inside (code_of c.args.scope.now) c.args.position c.new.result.items (here c.args.state.now)
-          c.args.wanted (here c.enter.new.self) r c.in-Decided.place c.in-Decided.field-1
-          (expr_view c.in-Decided.left) outside_ c.new.ensures.items c.requires.can
-          (follows_on (here c.args.state.now) (here c.begin_logical.new.state) outside_ b0.follows w.follows)
-          (decided_opens (code_of c.args.scope.now) c.args.wanted c.in-Decided.place c.args.position
-          c.in-Decided.field-1 (expr_view c.in-Decided.left) (expr_view c.in-Decided.left)
-          l r (here c.args.state.now) (here c.begin_logical.new.state) c.requires.can.ready b0 outside_ w)
-          (still_live (here c.begin_logical.new.state) outside_ r w.follows b0.live.1.0)
-          c.in_ok-enter-in-Decided.ensures);
-    }
-
 pub walk-walk_function-requires : goal.walk-walk_function-requires
 walk-walk_function-requires t c =
     let f = subst Formed (ap expr_view c.in-Lambda.is ∙ (view.lambda c.in-Lambda.parameters c.in-Lambda.body
@@ -971,7 +725,7 @@ walk-walk_function-requires t c =
     c.deref-in-Lambda.ensures.value
     ∙ ap (λ x. tree.Lambda (patterns_of (map pattern_view c.in-Lambda.parameters.items)) (expr_view x))
     c.deref.ensures))) c.requires.formed in (
-      first_of (search (rules, the_lemmas, c.decreases), search rules, omega (arith, c.decreases)),
+      first_of (omega (arith, c.decreases), search (rules, the_lemmas, c.decreases), search rules),
       (
         c.requires.can,
         (
@@ -986,7 +740,7 @@ walk-walk_function-requires t c =
 
 pub walk-walk_operation-requires : goal.walk-walk_operation-requires
 walk-walk_operation-requires t c = (
-  first_of (search (rules, the_lemmas, c.decreases), search rules, omega (arith, c.decreases)),
+  first_of (omega (arith, c.decreases), search (rules, the_lemmas, c.decreases), search rules),
   (
     (c.requires.can),
     (
@@ -998,7 +752,7 @@ walk-walk_operation-requires t c = (
 
 pub walk-walk_access-requires : goal.walk-walk_access-requires
 walk-walk_access-requires t c = (
-  first_of (search (rules, the_lemmas, c.decreases), search rules, omega (arith, c.decreases)),
+  first_of (omega (arith, c.decreases), search (rules, the_lemmas, c.decreases), search rules),
   (
     (c.requires.can),
     (
@@ -1014,7 +768,7 @@ walk-walk_access-requires t c = (
 
 pub walk-walk-requires : goal.walk-walk-requires
 walk-walk-requires t c = (
-  first_of (search (rules, the_lemmas, c.decreases), search rules, omega (arith, c.decreases)),
+  first_of (omega (arith, c.decreases), search (rules, the_lemmas, c.decreases), search rules),
   (
     subst (λ k. CanWalk k (here c.open_links.new.state)) (sym c.in_ok-inner-in-Chain.ensures.scope)
         c.in_ok-inner-in-Chain.ensures.can,
@@ -1186,7 +940,7 @@ walk_arguments-walk_operand-requires t c =
     let at = seen_count expr_view c.args.arguments.now i (omega (arith, lt)) in
     let enough : i + 1 < length vs = omega (arith, lt, c.requires.few) in
     let u = c.index-variable.result.now in (
-      first_of (search (rules, the_lemmas, c.decreases), search rules, omega (arith, c.decreases)),
+      first_of (omega (arith, c.decreases), search (rules, the_lemmas, c.decreases), search rules),
       (
         can_then (code_of c.args.scope.now) (code_of c.loop-index.scope) (here c.args.state.now)
             (here c.loop-index.state)
@@ -1318,7 +1072,7 @@ walk_branch-walk_part-requires t c =
     (expr_view c.args.branch.now.body) c.args.subject c.args.wanted c.args.number (here c.args.state.now)
     (here c.enter_both.new.state) (here c.infer_pattern.new.state) c.in_ok-enter_both.ensures c.requires.can)
     matched.follows in (
-      first_of (search (rules, the_lemmas, c.decreases), search rules, omega (arith, c.decreases)),
+      first_of (omega (arith, c.decreases), search (rules, the_lemmas, c.decreases), search rules),
       (
         can_at (sym c.in_ok-entered.ensures.scope)
             (can_bound (code_of c.args.scope.now) (here c.infer_pattern.new.state)
@@ -1375,7 +1129,7 @@ walk_branches-walk_branch-requires t c =
     let b =
     formed_branch c.args.branches.now c.loop-index.index c.index-branches-index.result c.loop-index-test.true
     c.index-branches-index.is c.requires.branches in (
-      first_of (search (rules, the_lemmas, c.decreases), search rules, omega (arith, c.decreases)),
+      first_of (omega (arith, c.decreases), search (rules, the_lemmas, c.decreases), search rules),
       (
         can_at (sym inv.scope) (can_on (code_of c.args.scope.now) (here c.args.state.now) (here c.loop-index.state)
             c.requires.can inv.went.follows),
@@ -1425,7 +1179,7 @@ walk_branches-returns-clause-walked t c =
 pub walk_callee-walk_part-requires : goal.walk_callee-walk_part-requires
 walk_callee-walk_part-requires t c =
     let b = c.in_ok-variables.ensures.begins (code_of c.args.scope.now) in (
-      first_of (search (rules, the_lemmas, c.decreases), search rules, omega (arith, c.decreases)),
+      first_of (omega (arith, c.decreases), search (rules, the_lemmas, c.decreases), search rules),
       (
         can_then (code_of c.args.scope.now) (code_of c.args.scope.now) (here c.args.state.now)
             (here c.begin_apply.new.state) refl c.requires.can b.follows,
@@ -1490,22 +1244,14 @@ walk_function-infer_patterns-requires-clause-known t c =
 pub walk_function-infer_patterns-requires-clause-wanted : goal.walk_function-infer_patterns-requires-clause-wanted
 walk_function-infer_patterns-requires-clause-wanted t c =
     let whole : c.in_ok-begun.begun.items ≡ c.in-Some.value.now ∷ c.in-Some.variables.now =
-    first_of (
-      search (rules, c.deref.ensures.value, c.in-Some.ensures.cases),
-      grind
-          (c.deref.ensures.value, c.in-Some.ensures.cases, c.in-Some.is),
-    ) in
+    sym c.deref.ensures.value ∙ c.in-Some.ensures.cases.0 in
     (subst (AllByRecursion (Live c.begin_function.new.state.depth c.begin_function.new.state.store)) whole
     (c.in_ok-begun.ensures.begins (code_of c.args.scope.now)).live).1
 
 pub walk_function-returns-in_err-bound-clause-stopped : goal.walk_function-returns-in_err-bound-clause-stopped
 walk_function-returns-in_err-bound-clause-stopped t c = λ b e. (
     let whole : c.in_ok-begun.begun.items ≡ c.in-Some.value.now ∷ c.in-Some.variables.now =
-    first_of (
-      search (rules, c.deref.ensures.value, c.in-Some.ensures.cases),
-      grind
-          (c.deref.ensures.value, c.in-Some.ensures.cases, c.in-Some.is),
-    ) in
+    sym c.deref.ensures.value ∙ c.in-Some.ensures.cases.0 in
     let b0 = c.in_ok-begun.ensures.begins (code_of c.args.scope.now) in
     let began = subst (λ vs. Begun (code_of c.args.scope.now) c.args.wanted (parameters (length c.args.parameters.now))
     (function_items (length c.args.parameters.now) c.args.position) vs
@@ -1528,11 +1274,7 @@ walk_function-returns-in_err-bound-clause-stopped t c = λ b e. (
 pub walk_function-walk_part-requires : goal.walk_function-walk_part-requires
 walk_function-walk_part-requires t c =
     let whole : c.in_ok-begun.begun.items ≡ c.in-Some.value.now ∷ c.in-Some.variables.now =
-    first_of (
-      search (rules, c.deref.ensures.value, c.in-Some.ensures.cases),
-      grind
-          (c.deref.ensures.value, c.in-Some.ensures.cases, c.in-Some.is),
-    ) in
+    sym c.deref.ensures.value ∙ c.in-Some.ensures.cases.0 in
     let b0 = c.in_ok-begun.ensures.begins (code_of c.args.scope.now) in
     let began = subst (λ vs. Begun (code_of c.args.scope.now) c.args.wanted (parameters (length c.args.parameters.now))
     (function_items (length c.args.parameters.now) c.args.position) vs
@@ -1544,7 +1286,7 @@ walk_function-walk_part-requires t c =
     (map pattern_view c.args.parameters.now) (map bound_view c.in_ok-bound.bound.items)
     (here c.begin_function.new.state) (here c.infer_patterns.new.state)) c.known.ensures
     c.in_ok-bound.ensures.matches in (
-      first_of (search (rules, the_lemmas, c.decreases), search rules, omega (arith, c.decreases)),
+      first_of (omega (arith, c.decreases), search (rules, the_lemmas, c.decreases), search rules),
       (
         can_at (sym c.in_ok-entered.ensures.scope)
             (can_bound (code_of c.args.scope.now) (here c.infer_patterns.new.state)
@@ -1565,11 +1307,7 @@ walk_function-walk_part-requires t c =
 pub walk_function-returns-in_err-walk_part-clause-stopped : goal.walk_function-returns-in_err-walk_part-clause-stopped
 walk_function-returns-in_err-walk_part-clause-stopped t c = λ b e. (
     let whole : c.in_ok-begun.begun.items ≡ c.in-Some.value.now ∷ c.in-Some.variables.now =
-    first_of (
-      search (rules, c.deref.ensures.value, c.in-Some.ensures.cases),
-      grind
-          (c.deref.ensures.value, c.in-Some.ensures.cases, c.in-Some.is),
-    ) in
+    sym c.deref.ensures.value ∙ c.in-Some.ensures.cases.0 in
     let b0 = c.in_ok-begun.ensures.begins (code_of c.args.scope.now) in
     let began = subst (λ vs. Begun (code_of c.args.scope.now) c.args.wanted (parameters (length c.args.parameters.now))
     (function_items (length c.args.parameters.now) c.args.position) vs
@@ -1595,11 +1333,7 @@ walk_function-returns-in_err-walk_part-clause-stopped t c = λ b e. (
 pub walk_function-returns-clause-walked : goal.walk_function-returns-clause-walked
 walk_function-returns-clause-walked t c =
     let whole : c.in_ok-begun.begun.items ≡ c.in-Some.value.now ∷ c.in-Some.variables.now =
-    first_of (
-      search (rules, c.deref.ensures.value, c.in-Some.ensures.cases),
-      grind
-          (c.deref.ensures.value, c.in-Some.ensures.cases, c.in-Some.is),
-    ) in
+    sym c.deref.ensures.value ∙ c.in-Some.ensures.cases.0 in
     let b0 = c.in_ok-begun.ensures.begins (code_of c.args.scope.now) in
     let began = subst (λ vs. Begun (code_of c.args.scope.now) c.args.wanted (parameters (length c.args.parameters.now))
     (function_items (length c.args.parameters.now) c.args.position) vs
@@ -1622,7 +1356,7 @@ walk_function-returns-clause-walked t c =
 
 pub walk_operand-walk-requires : goal.walk_operand-walk-requires
 walk_operand-walk-requires t c = (
-  first_of (search (rules, the_lemmas, c.decreases), search rules, omega (arith, c.decreases)),
+  first_of (omega (arith, c.decreases), search (rules, the_lemmas, c.decreases), search rules),
   (
     (can_operand (code_of c.args.scope.now) (here c.args.state.now) (here c.enter_both.new.state) c.args.outer
         c.args.number c.in_ok-enter_both.ensures c.requires.can),
@@ -1649,7 +1383,7 @@ walk_operand-returns-in-Err-clause-stopped t c = λ b e.
 
 pub walk_operation-walk_parts-requires : goal.walk_operation-walk_parts-requires
 walk_operation-walk_parts-requires t c = (
-  first_of (search (rules, the_lemmas, c.decreases), search rules, omega (arith, c.decreases)),
+  first_of (omega (arith, c.decreases), search (rules, the_lemmas, c.decreases), search rules),
   (
     (c.requires.can),
     (
@@ -1693,7 +1427,7 @@ walk_operation-returns-clause-stopped t c = λ b e.
 
 pub walk_part-walk-requires : goal.walk_part-walk-requires
 walk_part-walk-requires t c = (
-  first_of (search (rules, the_lemmas, c.decreases), search rules, omega (arith, c.decreases)),
+  first_of (omega (arith, c.decreases), search (rules, the_lemmas, c.decreases), search rules),
   (
     (can_part (code_of c.args.scope.now) (here c.args.state.now) (here c.enter.new.self) c.args.number
         c.in_ok-enter.ensures c.requires.can),
@@ -1772,7 +1506,7 @@ walk_parts-walk_operand-requires t c =
     (get_or vs i 0) c.loop-index.invariant.number refl (here c.args.state.now) (here c.loop-index.state)
     c.requires.can.ready c.loop-index.invariant.opened) in
     let u = c.index-variable.result.now in (
-      first_of (search (rules, the_lemmas, c.decreases), search rules, omega (arith, c.decreases)),
+      first_of (omega (arith, c.decreases), search (rules, the_lemmas, c.decreases), search rules),
       (
         can_then (code_of c.args.scope.now) (code_of c.loop-index.scope) (here c.args.state.now)
             (here c.loop-index.state)
@@ -2026,7 +1760,7 @@ open_links-open_link-requires t c =
     let e1 : j + 1 ≡ c.loop-left.left = omega (arith, c.loop-left-test.true) in
     let x = c.index-links-left.result in
     let kept = map (λ vs. vs.items) c.loop-left.kept.items in (
-      first_of (search (rules, the_lemmas, c.decreases), search rules, omega (arith, c.decreases)),
+      first_of (omega (arith, c.decreases), search (rules, the_lemmas, c.decreases), search rules),
       (
         subst (λ k. CanWalk k (here c.loop-left.state)) (sym c.loop-left.invariant.scope) c.loop-left.invariant.can,
         (
@@ -2124,7 +1858,7 @@ close_links-close_link-requires t c =
     let winds = subst (λ ls. Winding (code_of c.args.scope.now) c.args.position o.before o.wanted seen ls kept
     (here c.loop-link.state)) (drop_next link_view c.args.links.now j x lt c.link-item.is)
     (c.loop-link.invariant.winds o.before o.wanted o.inner_one o.winds) in (
-      first_of (search (rules, the_lemmas, c.decreases), search rules, omega (arith, c.decreases)),
+      first_of (omega (arith, c.decreases), search (rules, the_lemmas, c.decreases), search rules),
       (
         link_formed c.args.links.now j x lt c.link-item.is c.requires.formed,
         subst (λ k. Closable k c.args.position (link_view x) kept (here c.loop-link.state))
@@ -2211,7 +1945,7 @@ walk-walk_callee-requires t c =
     let f = subst Formed ((ap expr_view c.in-Apply.is ∙ view.apply c.in-Apply.callee c.in-Apply.arguments) ∙ sym
     (ap (λ x. Apply (expr_view x) (exprs_of (map expr_view c.in-Apply.arguments.items))) c.deref-in-Apply.ensures))
     c.requires.formed in (
-      first_of (search (rules, the_lemmas, c.decreases), search rules, omega (arith, c.decreases)),
+      first_of (omega (arith, c.decreases), search (rules, the_lemmas, c.decreases), search rules),
       (
         c.requires.can,
         (
@@ -2239,7 +1973,7 @@ walk-walk_arguments-requires t c =
     (ap (λ x. Apply (expr_view x) (exprs_of (map expr_view c.in-Apply.arguments.items))) c.deref-in-Apply.ensures))
     c.requires.formed in
     let d = ap length c.deref-in-Apply-2.ensures.value in (
-      first_of (search (rules, the_lemmas, c.decreases), search rules, omega (arith, c.decreases)),
+      first_of (omega (arith, c.decreases), search (rules, the_lemmas, c.decreases), search rules),
       (
         can_then (code_of c.args.scope.now) (code_of c.walk_callee.new.scope) (here c.args.state.now)
             (here c.walk_callee.new.state) c.in_ok-variables-in-Apply.ensures.scope c.requires.can
@@ -2260,7 +1994,7 @@ walk-walk_part-requires t c =
     let f = subst Formed ((ap expr_view c.in-If.is ∙ view.conditional c.in-If.test c.in-If.yes c.in-If.no) ∙ sym
     (ap (λ x. tree.If (expr_view x) (expr_view c.in-If.yes.value) (expr_view c.in-If.no.value)) c.deref-in-If.ensures))
     c.requires.formed in (
-      first_of (search (rules, the_lemmas, c.decreases), search rules, omega (arith, c.decreases)),
+      first_of (omega (arith, c.decreases), search (rules, the_lemmas, c.decreases), search rules),
       (
         can_on (code_of c.args.scope.now) (here c.args.state.now) (here c.bool.new.state) c.requires.can
             c.in_ok-choice-in-If.ensures.follows,
@@ -2275,7 +2009,7 @@ walk-walk_part-requires-in-If t c =
     ∙ sym (ap (λ x. tree.If (expr_view c.deref-in-If.result.now) (expr_view x) (expr_view c.in-If.no.value))
     c.deref-in-If-2.ensures)) c.requires.formed in
     let g = follows_on _ _ _ c.in_ok-choice-in-If.ensures.follows c.in_ok-walk_part-in-If.ensures.walked.follows in (
-      first_of (search (rules, the_lemmas, c.decreases), search rules, omega (arith, c.decreases)),
+      first_of (omega (arith, c.decreases), search (rules, the_lemmas, c.decreases), search rules),
       (
         can_at (sym c.in_ok-walk_part-in-If.ensures.scope)
             (can_on (code_of c.args.scope.now) (here c.args.state.now) (here c.walk_part.new.state) c.requires.can g),
@@ -2295,7 +2029,7 @@ walk-walk_part-requires-in-If-2 t c =
     follows_on _ _ _ c.in_ok-choice-in-If.ensures.follows
     (follows_on _ _ _ c.in_ok-walk_part-in-If.ensures.walked.follows c.in_ok-walk_part-in-If-2.ensures.walked.follows)
     in (
-      first_of (search (rules, the_lemmas, c.decreases), search rules, omega (arith, c.decreases)),
+      first_of (omega (arith, c.decreases), search (rules, the_lemmas, c.decreases), search rules),
       (
         can_at (sym same) (can_on (code_of c.args.scope.now) (here c.args.state.now) (here c.walk_part-in-If.new.state)
             c.requires.can g),
@@ -2336,7 +2070,7 @@ walk-returns-in_err-walk_part-in-If-2-clause-stopped t c = λ b e. (
 
 pub walk-open_links-requires : goal.walk-open_links-requires
 walk-open_links-requires t c = (
-  first_of (search (rules, the_lemmas, c.decreases), search rules, omega (arith, c.decreases)),
+  first_of (omega (arith, c.decreases), search (rules, the_lemmas, c.decreases), search rules),
   (
     c.requires.can,
     (
@@ -2399,7 +2133,7 @@ walk-close_links-requires t c =
           c.deref-in-Chain-2.ensures
           (went_at c.in_ok-inner-in-Chain.ensures.scope c.in_ok-walk-in-Chain.ensures.walked);
     } in (
-      first_of (search (rules, the_lemmas, c.decreases), search rules, omega (arith, c.decreases)),
+      first_of (omega (arith, c.decreases), search (rules, the_lemmas, c.decreases), search rules),
       (
         subst (λ ls. FormedLinks (map link_view ls)) (sym c.deref-in-Chain-3.ensures.value)
             (linked_formed (expr_view c.in-Chain.first.value) (map link_view c.in-Chain.links.items)
@@ -2426,7 +2160,7 @@ walk-walk_part-requires-in-Case t c =
     let f = subst Formed ((ap expr_view c.in-Case.is ∙ view.case_of c.in-Case.subject c.in-Case.branches) ∙ sym
     (ap (λ x. tree.Case (expr_view x) (branches_of (map branch_view c.in-Case.branches.items)))
     c.deref-in-Case.ensures)) c.requires.formed in (
-      first_of (search (rules, the_lemmas, c.decreases), search rules, omega (arith, c.decreases)),
+      first_of (omega (arith, c.decreases), search (rules, the_lemmas, c.decreases), search rules),
       (
         can_on (code_of c.args.scope.now) (here c.args.state.now) (here c.open.new.state) c.requires.can
             c.in_ok-variable-in-Case.ensures.follows,
@@ -2455,7 +2189,7 @@ walk-walk_branches-requires t c =
     c.deref-in-Case.ensures)) c.requires.formed in
     let g = follows_on _ _ _ c.in_ok-variable-in-Case.ensures.follows c.in_ok-walk_part-in-Case.ensures.walked.follows
     in (
-      first_of (search (rules, the_lemmas, c.decreases), search rules, omega (arith, c.decreases)),
+      first_of (omega (arith, c.decreases), search (rules, the_lemmas, c.decreases), search rules),
       (
         can_at (sym c.in_ok-walk_part-in-Case.ensures.scope)
             (can_on (code_of c.args.scope.now) (here c.args.state.now) (here c.walk_part-in-Case.new.state)
@@ -2475,7 +2209,7 @@ pub walk-walk-requires-in-Located : goal.walk-walk-requires-in-Located
 walk-walk-requires-in-Located t c =
     let f = subst Formed (ap expr_view c.in-Located.is ∙ (view.located c.in-Located.start c.in-Located.inner
     ∙ sym (ap (λ x. tree.Located c.in-Located.start (expr_view x)) c.deref-in-Located.ensures))) c.requires.formed in (
-      first_of (search (rules, the_lemmas, c.decreases), search rules, omega (arith, c.decreases)),
+      first_of (omega (arith, c.decreases), search (rules, the_lemmas, c.decreases), search rules),
       (c.requires.can, (f, c.requires.wanted)),
     )
 
@@ -2503,19 +2237,6 @@ open_link-returns-in_err-walk_arguments-in-Given-clause-stopped t c = λ b e y. 
     (listed (Apply (expr_view c.in-Given.callee) (exprs_of (map expr_view xs ++ y ∷ []))) c.args.position)
     (here c.args.state.now) (here c.walk_arguments.new.state) (bad_view b))
     (c.deref.ensures.value) (s)))
-
-pub open_link-walk_callee-requires-in-Composed : goal.open_link-walk_callee-requires-in-Composed
-open_link-walk_callee-requires-in-Composed t c = (
-  first_of (search (rules, the_lemmas, c.decreases), search rules, omega (arith, c.decreases)),
-  (
-    c.requires.can,
-    (
-      (subst FormedLink (ap link_view c.in-Composed.is ∙ view.composed c.in-Composed.callee c.in-Composed.field-1)
-          c.requires.formed).0,
-      c.requires.wanted,
-    ),
-  ),
-)
 
 pub walk-returns-in_ok-variables-in-Apply-clause-walked : goal.walk-returns-in_ok-variables-in-Apply-clause-walked
 walk-returns-in_ok-variables-in-Apply-clause-walked t c =
@@ -2697,7 +2418,7 @@ pub walk-walk_groups-requires : goal.walk-walk_groups-requires
 walk-walk_groups-requires t c =
     let f = subst Formed (ap expr_view c.in-Let.is ∙ view.let_in c.in-Let.groups c.in-Let.body) c.requires.formed in
     let e = c.deref-in-Let.ensures.value in (
-      first_of (search (rules, the_lemmas, c.decreases), search rules, omega (arith, c.decreases)),
+      first_of (omega (arith, c.decreases), search (rules, the_lemmas, c.decreases), search rules),
       (
         c.requires.can,
         (
@@ -2724,7 +2445,7 @@ pub walk-walk-requires-in-Let : goal.walk-walk-requires-in-Let
 walk-walk-requires-in-Let t c =
     let f = subst Formed (ap expr_view c.in-Let.is ∙ view.let_in c.in-Let.groups c.in-Let.body) c.requires.formed in
     let g = c.in_ok-entered-in-Let.ensures in (
-      first_of (search (rules, the_lemmas, c.decreases), search rules, omega (arith, c.decreases)),
+      first_of (omega (arith, c.decreases), search (rules, the_lemmas, c.decreases), search rules),
       (
         body_can (code_of c.args.scope.now) (groups_of (map group_view c.deref-in-Let.result.now))
             (expr_view c.deref-in-Let-2.result.now) c.args.position c.args.wanted (here c.args.state.now)
@@ -2965,7 +2686,6 @@ walk_group-members-requires-clause-inside t c = c.requires.order.inside
 pub walk_group-bounds-groups-group : goal.walk_group-bounds-groups-group
 walk_group-bounds-groups-group t c =
     let gs = views c.args.groups.now in
-    let ms = c.in_ok-members.members.items in
     let tg = c.in_ok-members.ensures gs c.requires.order c.requires.simple in
     let kind = c.first_of.ensures gs tg.group
     (subst (λ l. AreDefinitions gs l tg.group) (sym c.deref.ensures.value) tg.definitions)
@@ -3024,7 +2744,6 @@ walk_group-returns-in-Annotated-clause-walked t c g at = (
     let r = c.index-groups-group.result in
     let few = spot_within c.args.groups.now c.in-Annotated.group c.in-Annotated.function ann.definition ann.at in
     let there = group_there c.args.groups.now c.in-Annotated.group r r few c.index-groups-group.is in
-    let size = at_most_ref the_size c.args.groups.now c.in-Annotated.group r few c.index-groups-group.is in
     subst (λ l. AnnotatedWalked (code_of c.args.scope.now) (code_of c.walk_annotated.new.scope) l c.args.number
     (here c.args.state.now) (here c.walk_annotated.new.state))
     (of_number gs c.args.number ms g tg at)
@@ -3051,7 +2770,6 @@ walk_group-returns-in_err-walk_annotated-in-Annotated-clause-stopped t c b e g a
     let r = c.index-groups-group.result in
     let few = spot_within c.args.groups.now c.in-Annotated.group c.in-Annotated.function ann.definition ann.at in
     let there = group_there c.args.groups.now c.in-Annotated.group r r few c.index-groups-group.is in
-    let size = at_most_ref the_size c.args.groups.now c.in-Annotated.group r few c.index-groups-group.is in
     let p = err_from_is_err_and c.from_residual-in_err-walk_annotated-in-Annotated.result
     c.from_residual-in_err-walk_annotated-in-Annotated.ensures.1 in
     subst (λ l. GroupStops (code_of c.args.scope.now) l c.args.number (here c.args.state.now)
@@ -3066,7 +2784,6 @@ walk_group-returns-in_err-walk_annotated-in-Annotated-clause-stopped t c b e g a
 pub walk_group-bounds-groups-group-in-Pattern : goal.walk_group-bounds-groups-group-in-Pattern
 walk_group-bounds-groups-group-in-Pattern t c =
     let gs = views c.args.groups.now in
-    let ms = c.in_ok-members.members.items in
     let tg = c.in_ok-members.ensures gs c.requires.order c.requires.simple in
     let kind = c.first_of.ensures gs tg.group
     (subst (λ l. AreDefinitions gs l tg.group) (sym c.deref.ensures.value) tg.definitions)
@@ -3112,7 +2829,6 @@ walk_group-returns-in-Pattern-clause-walked t c g at = (
     let r = c.index-groups-group-in-Pattern.result in
     let few = within c.args.groups.now c.in-Pattern.group (ap is_some pat.at) in
     let there = group_there c.args.groups.now c.in-Pattern.group r r few c.index-groups-group-in-Pattern.is in
-    let size = at_most_ref the_size c.args.groups.now c.in-Pattern.group r few c.index-groups-group-in-Pattern.is in
     subst (λ l. InferredWalked (code_of c.args.scope.now) (code_of c.walk_destructured.new.scope) l c.args.number
     c.in_ok-opened-in-Pattern.opened (here c.args.state.now) (here c.walk_destructured.new.state))
     (of_number gs c.args.number ms g tg at)
@@ -3135,7 +2851,6 @@ walk_group-returns-in_err-opened-in-Pattern-clause-stopped t c b e g at = (
     let r = c.index-groups-group-in-Pattern.result in
     let few = within c.args.groups.now c.in-Pattern.group (ap is_some pat.at) in
     let there = group_there c.args.groups.now c.in-Pattern.group r r few c.index-groups-group-in-Pattern.is in
-    let size = at_most_ref the_size c.args.groups.now c.in-Pattern.group r few c.index-groups-group-in-Pattern.is in
     let p = err_from_is_err_and c.from_residual-in_err-opened-in-Pattern.result
     c.from_residual-in_err-opened-in-Pattern.ensures.1 in
     subst (λ l. GroupStops (code_of c.args.scope.now) l c.args.number (here c.args.state.now)
@@ -3259,17 +2974,12 @@ walk_members-index-requires t c =
 pub walk_members-bounds-groups-member : goal.walk_members-bounds-groups-member
 walk_members-bounds-groups-member t c =
     let gs = views c.args.groups.now in
-    let code = code_of c.args.scope.now in
     let k = c.loop-index.index in
     let now = here c.loop-index.state in
-    let inv = c.loop-index.invariant in
     let lt = c.loop-index-test.true in
     let m = c.index-members-index.result in
-    let names = c.in_ok-opened.opened.names.items in
     let rm = c.requires.members in
     let b = zip_beside (IsDefinition gs) c.args.members.now rm.group k m rm.definitions lt c.index-members-index.is in
-    let count = names_count gs c.args.members.now code c.args.number k names (here c.args.state.now) now rm.group
-    rm.definitions (inv.done rm.group rm.definitions) in
     spot_within c.args.groups.now m.group m.function b.other b.related.at
 
 pub walk_members-walk_definition-requires : goal.walk_members-walk_definition-requires
@@ -3338,9 +3048,6 @@ walk_members-returns-in_err-walk_definition-clause-stopped t c y e = (
     let at_n = name_at names k c.index.result.now (omega (arith, lt, count)) c.index.ensures in
     let at_k : here c.enter.new.self ≡ at_child now k = c.in_ok-enter.ensures ∙ ap (λ j. at_child now j)
     c.in_ok-child.ensures in
-    let live_ = live_there now (here c.enter.new.self) _ n.1 c.in_ok-enter.ensures
-    (all_some (λ (x : Ref × ℕ). Live now.depth now.store x.1) (named_views names) k n
-    (inv.done rm.group rm.definitions).live at_n) in
     let p = err_from_is_err_and c.from_residual-in_err-walk_definition.result
     c.from_residual-in_err-walk_definition.ensures.1 in
     member_stuck gs c.args.members.now code c.args.number k (named_views names) (here c.args.state.now) now m lt
@@ -3354,30 +3061,19 @@ walk_members-returns-in_err-walk_definition-clause-stopped t c y e = (
 pub walk_members-check_size-requires-clause-whole : goal.walk_members-check_size-requires-clause-whole
 walk_members-check_size-requires-clause-whole t c =
     let gs = views c.args.groups.now in
-    let code = code_of c.args.scope.now in
     let k = c.loop-index.index in
     let now = here c.loop-index.state in
     let inv = c.loop-index.invariant in
     let lt = c.loop-index-test.true in
     let m = c.index-members-index.result in
-    let names = c.in_ok-opened.opened.names.items in
     let rm = c.requires.members in
     let b = zip_beside (IsDefinition gs) c.args.members.now rm.group k m rm.definitions lt c.index-members-index.is in
-    let count = names_count gs c.args.members.now code c.args.number k names (here c.args.state.now) now rm.group
-    rm.definitions (inv.done rm.group rm.definitions) in
     let r = c.index-groups-member.result in
     let few = spot_within c.args.groups.now m.group m.function b.other b.related.at in
     let there = group_there c.args.groups.now m.group r r few c.index-groups-member.is in
-    let size = at_most_ref the_size c.args.groups.now m.group r few c.index-groups-member.is in
-    let titled_ : has_titles (slice_get gs m.group) ≡ true = sym b.related.kind ∙ all_some HasTitle c.args.members.now k
-    m rm.titled (at_number c.args.members.now k m m lt c.index-members-index.is) in
     let n = named_view c.index.result.now in
-    let at_n = name_at names k c.index.result.now (omega (arith, lt, count)) c.index.ensures in
     let at_k : here c.enter.new.self ≡ at_child now k = c.in_ok-enter.ensures ∙ ap (λ j. at_child now j)
     c.in_ok-child.ensures in
-    let live_ = live_there now (here c.enter.new.self) _ n.1 c.in_ok-enter.ensures
-    (all_some (λ (x : Ref × ℕ). Live now.depth now.store x.1) (named_views names) k n
-    (inv.done rm.group rm.definitions).live at_n) in
     let went = λ (d : Definition) (spot : at_spot gs m.group m.function ≡ Some d). went_at inv.scope
     (subst (λ (s : plain.State). Went Wanted (code_of c.loop-index.scope) (one n.1) below (λ s q w. d.list s q w) s
     (here c.walk_definition.new.state)) at_k
@@ -3442,9 +3138,6 @@ walk_members-returns-in_err-check_size-clause-stopped t c y e = (
     let at_n = name_at names k c.index.result.now (omega (arith, lt, count)) c.index.ensures in
     let at_k : here c.enter.new.self ≡ at_child now k = c.in_ok-enter.ensures ∙ ap (λ j. at_child now j)
     c.in_ok-child.ensures in
-    let live_ = live_there now (here c.enter.new.self) _ n.1 c.in_ok-enter.ensures
-    (all_some (λ (x : Ref × ℕ). Live now.depth now.store x.1) (named_views names) k n
-    (inv.done rm.group rm.definitions).live at_n) in
     let went = λ (d : Definition) (spot : at_spot gs m.group m.function ≡ Some d). went_at inv.scope
     (subst (λ (s : plain.State). Went Wanted (code_of c.loop-index.scope) (one n.1) below (λ s q w. d.list s q w) s
     (here c.walk_definition.new.state)) at_k
@@ -3482,9 +3175,6 @@ walk_members-loop-index-preserved t c =
     let at_n = name_at names k c.index.result.now (omega (arith, lt, count)) c.index.ensures in
     let at_k : here c.enter.new.self ≡ at_child now k = c.in_ok-enter.ensures ∙ ap (λ j. at_child now j)
     c.in_ok-child.ensures in
-    let live_ = live_there now (here c.enter.new.self) _ n.1 c.in_ok-enter.ensures
-    (all_some (λ (x : Ref × ℕ). Live now.depth now.store x.1) (named_views names) k n
-    (inv.done rm.group rm.definitions).live at_n) in
     let went = λ (d : Definition) (spot : at_spot gs m.group m.function ≡ Some d). went_at inv.scope
     (subst (λ (s : plain.State). Went Wanted (code_of c.loop-index.scope) (one n.1) below (λ s q w. d.list s q w) s
     (here c.walk_definition.new.state)) at_k
@@ -3539,7 +3229,7 @@ walk_definition-walk_function-requires t c =
     let here_ = at_number c.in-Together.functions.items c.args.function each each few c.index-each.ensures in
     let f = function_formed c.in-Together.functions.items c.args.function each here_
     (subst FormedGroup same c.requires.formed) in (
-      first_of (search (rules, the_lemmas, c.decreases), search rules, omega (arith, c.decreases)),
+      first_of (omega (arith, c.decreases), search (rules, the_lemmas, c.decreases), search rules),
       (
         c.requires.can,
         (
@@ -3594,7 +3284,7 @@ walk_definition-returns-in-Together-clause-stopped t c = λ b e d spot. (
 pub walk_definition-walk_function-requires-in-Constant : goal.walk_definition-walk_function-requires-in-Constant
 walk_definition-walk_function-requires-in-Constant t c =
     let same = ap group_view c.in-Constant.is ∙ view.constant c.in-Constant.title c.in-Constant.body in (
-      first_of (search (rules, the_lemmas, c.decreases), search rules, omega (arith, c.decreases)),
+      first_of (omega (arith, c.decreases), search (rules, the_lemmas, c.decreases), search rules),
       (
         c.requires.can,
         (
@@ -3645,7 +3335,7 @@ walk_annotated-walk_definition-requires t c =
     let vs = c.in_ok-begun.begun.inside.slots.items in
     let v = c.in_ok-begun.begun.variable in
     let o = c.in_ok-begun.ensures.opens in (
-      first_of (search (rules, the_lemmas, c.decreases), search rules, omega (arith, c.decreases)),
+      first_of (omega (arith, c.decreases), search (rules, the_lemmas, c.decreases), search rules),
       (
         can_part (code_of c.enter_annotated.new.scope) now (here c.enter.new.self) 0 c.in_ok-enter.ensures
             (annotated_can code (code_of c.enter_annotated.new.scope) c.args.place
@@ -3696,8 +3386,6 @@ walk_annotated-close_annotated-requires t c =
     let ad = annotated_done code (code_of c.enter_annotated.new.scope) c.args.place
     (annotation_view c.args.annotation.now) c.args.number vs v (here c.args.state.now) now o d at x
     (here c.leave_one.new.state) went back in
-    let left_ = ap (without_constant c.in_ok-begun.begun.inside.entered.items) c.in_ok-walk_definition.ensures.scope ∙
-    c.in_ok-begun.ensures.left in
     record {
       code = code;
       definition = d;
@@ -3772,8 +3460,6 @@ walk_annotated-returns-clause-stopped t c y e d spot = (
     let ad = annotated_done code (code_of c.enter_annotated.new.scope) c.args.place
     (annotation_view c.args.annotation.now) c.args.number vs v (here c.args.state.now) now o d at x
     (here c.leave_one.new.state) went back in
-    let left_ = ap (without_constant c.in_ok-begun.begun.inside.entered.items) c.in_ok-walk_definition.ensures.scope ∙
-    c.in_ok-begun.ensures.left in
     c.close_annotated.ensures.stops y e code d (annotation_view c.args.annotation.now) c.args.number
     (here c.args.state.now) o.mid ad
     c.in_ok-begun.ensures.names at)
@@ -3781,8 +3467,6 @@ walk_annotated-returns-clause-stopped t c y e d spot = (
 pub walk_destructured-begin_pattern-requires-clause-once : goal.walk_destructured-begin_pattern-requires-clause-once
 walk_destructured-begin_pattern-requires-clause-once t c =
     let same = ap group_view c.in-Destructure.is ∙ view.destructure c.in-Destructure.pattern c.in-Destructure.body in
-    let starts : c.args.place ≡ pattern_start nowhere (pattern_view c.in-Destructure.pattern) = subst
-    (StartsAt c.args.place) same c.requires.pattern in
     (subst FormedGroup same c.requires.formed).0
 
 pub walk_destructured-begin_pattern-requires-clause-start : goal.walk_destructured-begin_pattern-requires-clause-start
@@ -3796,8 +3480,6 @@ pub walk_destructured-returns-in_err-begun-in-Destructure-clause-stopped :
     goal.walk_destructured-returns-in_err-begun-in-Destructure-clause-stopped
 walk_destructured-returns-in_err-begun-in-Destructure-clause-stopped t c y e = (
     let same = ap group_view c.in-Destructure.is ∙ view.destructure c.in-Destructure.pattern c.in-Destructure.body in
-    let starts : c.args.place ≡ pattern_start nowhere (pattern_view c.in-Destructure.pattern) = subst
-    (StartsAt c.args.place) same c.requires.pattern in
     let p = err_from_is_err_and c.from_residual.result c.from_residual.ensures.1 in
     subst (λ (g : tree.Group). InferredStops (code_of c.args.scope.now) (group_definitions g) c.args.number
     (here c.args.state.now) (here c.begin_pattern.new.state) (bad_view y))
@@ -3813,7 +3495,7 @@ walk_destructured-walk-requires t c =
     let now = here c.begin_pattern.new.state in
     let v = c.in_ok-begun-in-Destructure.begun.variable in
     let b = c.in_ok-begun-in-Destructure.ensures.begun in (
-      first_of (search (rules, the_lemmas, c.decreases), search rules, omega (arith, c.decreases)),
+      first_of (omega (arith, c.decreases), search (rules, the_lemmas, c.decreases), search rules),
       (
         can_part (code_of c.begin_pattern.new.scope) now (here c.enter.new.self) 1 c.in_ok-enter-in-Destructure.ensures
             b.can,
@@ -3854,10 +3536,6 @@ walk_destructured-end_pattern-requires-clause-whole t c = c.in_ok-walk-in-Destru
 
 pub walk_destructured-end_pattern-requires-clause-inside : goal.walk_destructured-end_pattern-requires-clause-inside
 walk_destructured-end_pattern-requires-clause-inside t c =
-    let same = ap group_view c.in-Destructure.is ∙ view.destructure c.in-Destructure.pattern c.in-Destructure.body in
-    let starts : c.args.place ≡ pattern_start nowhere (pattern_view c.in-Destructure.pattern) = subst
-    (StartsAt c.args.place) same c.requires.pattern in
-    let inner = code_of c.begin_pattern.new.scope in
     let now = here c.begin_pattern.new.state in
     let v = c.in_ok-begun-in-Destructure.begun.variable in
     let b = c.in_ok-begun-in-Destructure.ensures.begun in
@@ -3926,7 +3604,7 @@ walk_members-offset_bounds-groups-member t c =
     let count = names_count gs c.args.members.now code c.args.number k names (here c.args.state.now) now rm.group
     rm.definitions (inv.done rm.group rm.definitions) in
     let few = spot_within c.args.groups.now m.group m.function b.other b.related.at in
-    first_of (search (rules, few), omega (arith, few), grind (arith, common_steps, few))
+    first_of (omega (arith, few), search (rules, few), grind (arith, common_steps, few))
 
 pub walk_definition-unreachable-requires : goal.walk_definition-unreachable-requires
 walk_definition-unreachable-requires t c =
@@ -3943,3 +3621,283 @@ pub walk_destructured-unreachable-requires-in-Constant : goal.walk_destructured-
 walk_destructured-unreachable-requires-in-Constant t c =
     subst (StartsAt c.args.place)
     (ap group_view c.in-Constant.is ∙ view.constant c.in-Constant.field-0 c.in-Constant.field-1) c.requires.pattern
+
+pub open_link-open_composed-requires : goal.open_link-open_composed-requires
+open_link-open_composed-requires t c = (
+  first_of (omega (arith, c.decreases), search (rules, the_lemmas, c.decreases), search rules),
+  (
+    c.requires.can,
+    (
+      (subst FormedLink (ap link_view c.in-Composed.is ∙ view.composed c.in-Composed.callee
+          c.in-Composed.field-1) c.requires.formed).0,
+      c.requires.wanted,
+    ),
+  ),
+)
+
+pub open_link-returns-in-Composed-clause-opened : goal.open_link-returns-in-Composed-clause-opened
+open_link-returns-in-Composed-clause-opened t c =
+    IfOk-weaker c.open_composed.result
+    (λ (v : ℕ). (x : tree.Expr) → OpensOne (code_of c.args.scope.now) c.args.position (Composed
+    (expr_view c.in-Composed.callee) x)
+    (map (λ vs. vs.items) c.args.kept.now.items) (map (λ vs. vs.items) c.open_composed.new.kept.items)
+    (here c.args.state.now) c.args.wanted
+    (here c.open_composed.new.state) v)
+    (λ (v : ℕ). OpensOne (code_of c.args.scope.now) c.args.position (link_view c.args.link.now)
+    (map (λ vs. vs.items) c.args.kept.now.items) (map (λ vs. vs.items) c.open_composed.new.kept.items)
+    (here c.args.state.now) c.args.wanted
+    (here c.open_composed.new.state) v)
+    (λ v o. subst (λ l. OpensOne (code_of c.args.scope.now) c.args.position l (map (λ vs. vs.items)
+    c.args.kept.now.items)
+    (map (λ vs. vs.items) c.open_composed.new.kept.items) (here c.args.state.now) c.args.wanted
+    (here c.open_composed.new.state) v)
+    (sym (ap link_view c.in-Composed.is ∙ view.composed c.in-Composed.callee c.in-Composed.field-1)) (o
+    (expr_view c.in-Composed.field-1))) c.open_composed.ensures.opened
+
+pub open_link-returns-in-Composed-clause-stopped : goal.open_link-returns-in-Composed-clause-stopped
+open_link-returns-in-Composed-clause-stopped t c = λ b e y.
+    shown_stuck (code_of c.args.scope.now) c.args.wanted c.args.position (here c.args.state.now)
+    (here c.open_composed.new.state) (bad_view b) _ _
+    (ap (λ l. done l y) (ap link_view c.in-Composed.is ∙ view.composed c.in-Composed.callee c.in-Composed.field-1))
+    (c.open_composed.ensures.stopped b e (expr_view c.in-Composed.field-1) y)
+
+pub open_link-open_after-requires : goal.open_link-open_after-requires
+open_link-open_after-requires t c = (
+  first_of (omega (arith, c.decreases), search (rules, the_lemmas, c.decreases), search rules),
+  (
+    c.requires.can,
+    (
+      (subst FormedLink (ap link_view c.in-After.is ∙ view.part_after c.in-After.op c.in-After.parts)
+          c.requires.formed),
+      c.requires.wanted,
+    ),
+  ),
+)
+
+pub open_link-returns-in-After-clause-opened : goal.open_link-returns-in-After-clause-opened
+open_link-returns-in-After-clause-opened t c =
+    IfOk-weaker c.open_after.result
+    (λ (v : ℕ). OpensOne (code_of c.args.scope.now) c.args.position (After (op_view c.in-After.op)
+    (map expr_view c.in-After.parts.items))
+    (map (λ vs. vs.items) c.args.kept.now.items) (map (λ vs. vs.items) c.open_after.new.kept.items)
+    (here c.args.state.now) c.args.wanted
+    (here c.open_after.new.state) v)
+    (λ (v : ℕ). OpensOne (code_of c.args.scope.now) c.args.position (link_view c.args.link.now)
+    (map (λ vs. vs.items) c.args.kept.now.items) (map (λ vs. vs.items) c.open_after.new.kept.items)
+    (here c.args.state.now) c.args.wanted
+    (here c.open_after.new.state) v)
+    (λ v o. subst (λ l. OpensOne (code_of c.args.scope.now) c.args.position l (map (λ vs. vs.items)
+    c.args.kept.now.items)
+    (map (λ vs. vs.items) c.open_after.new.kept.items) (here c.args.state.now) c.args.wanted
+    (here c.open_after.new.state) v)
+    (sym (ap link_view c.in-After.is ∙ view.part_after c.in-After.op c.in-After.parts)) o) c.open_after.ensures.opened
+
+pub open_link-returns-in-After-clause-stopped : goal.open_link-returns-in-After-clause-stopped
+open_link-returns-in-After-clause-stopped t c = λ b e y.
+    shown_stuck (code_of c.args.scope.now) c.args.wanted c.args.position (here c.args.state.now)
+    (here c.open_after.new.state) (bad_view b) _ _
+    (ap (λ l. done l y) (ap link_view c.in-After.is ∙ view.part_after c.in-After.op c.in-After.parts))
+    (c.open_after.ensures.stopped b e y)
+
+pub open_link-open_before-requires-clause-formed : goal.open_link-open_before-requires-clause-formed
+open_link-open_before-requires-clause-formed t c =
+    (subst FormedLink (ap link_view c.in-Before.is ∙ view.part_before c.in-Before.op c.in-Before.field-1)
+    c.requires.formed).0
+
+pub open_link-returns-in-Before-clause-opened : goal.open_link-returns-in-Before-clause-opened
+open_link-returns-in-Before-clause-opened t c =
+    IfOk-weaker c.open_before.result
+    (λ (v : ℕ). (x : tree.Expr) → OpensOne (code_of c.args.scope.now) c.args.position (Before (op_view c.in-Before.op)
+    x)
+    (map (λ vs. vs.items) c.args.kept.now.items) (map (λ vs. vs.items) c.open_before.new.kept.items)
+    (here c.args.state.now) c.args.wanted
+    (here c.open_before.new.state) v)
+    (λ (v : ℕ). OpensOne (code_of c.args.scope.now) c.args.position (link_view c.args.link.now)
+    (map (λ vs. vs.items) c.args.kept.now.items) (map (λ vs. vs.items) c.open_before.new.kept.items)
+    (here c.args.state.now) c.args.wanted
+    (here c.open_before.new.state) v)
+    (λ v o. subst (λ l. OpensOne (code_of c.args.scope.now) c.args.position l (map (λ vs. vs.items)
+    c.args.kept.now.items)
+    (map (λ vs. vs.items) c.open_before.new.kept.items) (here c.args.state.now) c.args.wanted
+    (here c.open_before.new.state) v)
+    (sym (ap link_view c.in-Before.is ∙ view.part_before c.in-Before.op c.in-Before.field-1)) (o
+    (expr_view c.in-Before.field-1))) c.open_before.ensures.opened
+
+pub open_link-returns-in-Before-clause-stopped : goal.open_link-returns-in-Before-clause-stopped
+open_link-returns-in-Before-clause-stopped t c = λ b e y.
+    shown_stuck (code_of c.args.scope.now) c.args.wanted c.args.position (here c.args.state.now)
+    (here c.open_before.new.state) (bad_view b) _ _
+    (ap (λ l. done l y) (ap link_view c.in-Before.is ∙ view.part_before c.in-Before.op c.in-Before.field-1))
+    (c.open_before.ensures.stopped b e (expr_view c.in-Before.field-1) y)
+
+pub open_link-open_decided-requires : goal.open_link-open_decided-requires
+open_link-open_decided-requires t c = (
+  first_of (omega (arith, c.decreases), search (rules, the_lemmas, c.decreases), search rules),
+  (
+    c.requires.can,
+    (
+      (subst FormedLink (ap link_view c.in-Decided.is ∙ view.decided c.in-Decided.place
+          c.in-Decided.field-1 c.in-Decided.left) c.requires.formed),
+      c.requires.wanted,
+    ),
+  ),
+)
+
+pub open_link-returns-in-Decided-clause-opened : goal.open_link-returns-in-Decided-clause-opened
+open_link-returns-in-Decided-clause-opened t c =
+    IfOk-weaker c.open_decided.result
+    (λ (v : ℕ). (x : Connective) → OpensOne (code_of c.args.scope.now) c.args.position (Decided c.in-Decided.place x
+    (expr_view c.in-Decided.left))
+    (map (λ vs. vs.items) c.args.kept.now.items) (map (λ vs. vs.items) c.open_decided.new.kept.items)
+    (here c.args.state.now) c.args.wanted
+    (here c.open_decided.new.state) v)
+    (λ (v : ℕ). OpensOne (code_of c.args.scope.now) c.args.position (link_view c.args.link.now)
+    (map (λ vs. vs.items) c.args.kept.now.items) (map (λ vs. vs.items) c.open_decided.new.kept.items)
+    (here c.args.state.now) c.args.wanted
+    (here c.open_decided.new.state) v)
+    (λ v o. subst (λ l. OpensOne (code_of c.args.scope.now) c.args.position l (map (λ vs. vs.items)
+    c.args.kept.now.items)
+    (map (λ vs. vs.items) c.open_decided.new.kept.items) (here c.args.state.now) c.args.wanted
+    (here c.open_decided.new.state) v)
+    (sym (ap link_view c.in-Decided.is ∙ view.decided c.in-Decided.place c.in-Decided.field-1 c.in-Decided.left))
+    (o c.in-Decided.field-1)) c.open_decided.ensures.opened
+
+pub open_link-returns-in-Decided-clause-stopped : goal.open_link-returns-in-Decided-clause-stopped
+open_link-returns-in-Decided-clause-stopped t c = λ b e y.
+    shown_stuck (code_of c.args.scope.now) c.args.wanted c.args.position (here c.args.state.now)
+    (here c.open_decided.new.state) (bad_view b) _ _
+    (ap (λ l. done l y) (ap link_view c.in-Decided.is ∙ view.decided c.in-Decided.place c.in-Decided.field-1
+    c.in-Decided.left)) (c.open_decided.ensures.stopped b e c.in-Decided.field-1 y)
+
+pub open_composed-walk_callee-requires : goal.open_composed-walk_callee-requires
+open_composed-walk_callee-requires t c = (
+  first_of (omega (arith, c.decreases), search (rules, the_lemmas, c.decreases), search rules),
+  (
+    c.requires.can,
+    (c.requires.formed, c.requires.wanted),
+  ),
+)
+
+pub open_composed-returns-in_err-variables-clause-stopped : goal.open_composed-returns-in_err-variables-clause-stopped
+open_composed-returns-in_err-variables-clause-stopped t c = λ b e x y.
+    let p = err_from_is_err_and c.from_residual.result c.from_residual.ensures.1 in
+    c.in_err-variables.ensures.stopped b (other_error _ _ (rw (p.1, p.2) at e)) (y ∷ x ∷ []) refl
+
+pub open_composed-returns-clause-opened : goal.open_composed-returns-clause-opened
+open_composed-returns-clause-opened t c =
+    λ x. record {
+      own = c.in_ok-variables.variables.items;
+      is = c.in_ok-inner.ensures.kept;
+      inside_is =
+          composed_inside (code_of c.args.scope.now) c.args.position _ (here c.args.state.now) c.args.wanted
+          (here c.go_inside.new.state) c.in_ok-inner.inner
+          (here c.walk_callee.new.state) c.requires.can c.in_ok-variables.ensures.follows
+          c.in_ok-variables.ensures.live (expr_view c.args.callee.now) x c.in_ok-variables.ensures.opened
+          c.in_ok-variables.ensures.number c.in_ok-inner.ensures.variable c.in_ok-inner.ensures.place;
+    }
+
+pub open_after-walk_parts-requires : goal.open_after-walk_parts-requires
+open_after-walk_parts-requires t c =
+    let same = ap length c.deref.ensures.value in
+    let count = length-map c.args.parts.now.items expr_view in
+    let e : suc (length (map expr_view c.args.parts.now.items)) ≡ c.len-count.result + 1 = omega
+    (arith, count, c.len-count.ensures) in (
+      first_of (omega (arith, c.decreases), search (rules, the_lemmas, c.decreases), search rules),
+      (
+        c.requires.can,
+        (
+          subst (FormedOp (op_view c.args.op.now)) e c.requires.formed.0,
+          (
+            subst (λ xs. AllFormed (exprs_of (map expr_view xs))) (sym c.deref.ensures.value) c.requires.formed.1,
+            (omega (arith, same, c.len-count.ensures), c.requires.wanted),
+          ),
+        ),
+      ),
+    )
+
+pub open_after-returns-in_err-variables-clause-stopped : goal.open_after-returns-in_err-variables-clause-stopped
+open_after-returns-in_err-variables-clause-stopped t c = λ b e y.
+    let p = err_from_is_err_and c.from_residual.result c.from_residual.ensures.1 in
+    subst (λ xs. Stuck Wanted (code_of c.args.scope.now) (one c.args.wanted) below
+    (listed (Strict (op_view c.args.op.now) (exprs_of (map expr_view xs ++ y ∷ []))) c.args.position)
+    (here c.args.state.now) (here c.walk_parts.new.state)
+    (bad_view b)) c.deref.ensures.value
+    (c.in_err-variables.ensures.stopped b (other_error _ _ (rw (p.1, p.2) at e)) (y ∷ [])
+    (let same = ap length c.deref.ensures.value in omega (arith, same, c.len-count.ensures)))
+
+pub open_after-returns-clause-opened : goal.open_after-returns-clause-opened
+open_after-returns-clause-opened t c =
+    let outside_ = here c.walk_parts.new.state in
+    let m = length-map c.args.parts.now.items expr_view in
+    let count : length (map expr_view c.args.parts.now.items) ≡ c.len-count.result = omega
+    (arith, m, c.len-count.ensures) in
+    let e : suc (length (map expr_view c.args.parts.now.items)) ≡ c.len-count.result + 1 = omega (arith, count) in
+    let formed = subst (FormedOp (op_view c.args.op.now)) e c.requires.formed.0 in
+    let number = c.in_ok-variables.ensures.number ∙ ap (known_count (op_view c.args.op.now) (c.len-count.result + 1))
+    (let d = ap length c.deref.ensures.value in let k : length c.deref.result.now ≡ c.len-count.result
+    = omega (arith, d, c.len-count.ensures) in k) in
+    record {
+      own = c.in_ok-variables.variables.items;
+      is = c.in_ok-inner.ensures.kept;
+      inside_is =
+          after_inside (code_of c.args.scope.now) c.args.position _ (here c.args.state.now) c.args.wanted
+          (here c.go_inside.new.state) c.in_ok-inner.inner outside_
+          c.requires.can c.in_ok-variables.ensures.follows c.in_ok-variables.ensures.live (op_view c.args.op.now)
+          (map expr_view c.args.parts.now.items) c.len-count.result count
+          (strict_op c.args.op.now) formed
+          (subst (λ xs. OpOpens (code_of c.args.scope.now) c.args.wanted (op_view c.args.op.now)
+          (c.len-count.result + 1) c.args.position (map expr_view xs)
+          c.in_ok-variables.variables.items (here c.args.state.now) outside_)
+          c.deref.ensures.value c.in_ok-variables.ensures.opened)
+          number (enough_at (op_view c.args.op.now) c.len-count.result _ formed number) c.in_ok-inner.ensures.variable
+          c.in_ok-inner.ensures.place;
+    }
+
+pub open_decided-returns-in_err-operands-clause-stopped : goal.open_decided-returns-in_err-operands-clause-stopped
+open_decided-returns-in_err-operands-clause-stopped t c = λ b e x y.
+    let p = err_from_is_err_and c.from_residual.result c.from_residual.ensures.1 in
+    decided_unbegun (code_of c.args.scope.now) c.args.wanted c.args.place c.args.position x
+    (expr_view c.args.left.now) y (here c.args.state.now) (here c.begin_logical.new.state)
+    (bad_view b) (c.in_err-operands.ensures.stops b (other_error _ _ (rw (p.1, p.2) at e)) (code_of c.args.scope.now))
+
+pub open_decided-walk_part-requires : goal.open_decided-walk_part-requires
+open_decided-walk_part-requires t c =
+    let b = c.in_ok-operands.ensures.begins (code_of c.args.scope.now) in (
+      first_of (omega (arith, c.decreases), search (rules, the_lemmas, c.decreases), search rules),
+      (
+        can_then (code_of c.args.scope.now) (code_of c.args.scope.now) (here c.args.state.now)
+            (here c.begin_logical.new.state) refl c.requires.can b.follows,
+        (c.requires.formed, b.live.0),
+      ),
+    )
+
+pub open_decided-returns-in_err-walk_part-clause-stopped : goal.open_decided-returns-in_err-walk_part-clause-stopped
+open_decided-returns-in_err-walk_part-clause-stopped t c = λ b e x y.
+    let b0 = c.in_ok-operands.ensures.begins (code_of c.args.scope.now) in
+    let p = err_from_is_err_and c.from_residual-in_err-walk_part.result c.from_residual-in_err-walk_part.ensures.1 in
+    left_stuck (code_of c.args.scope.now) c.args.wanted c.args.place c.args.position x (expr_view c.args.left.now)
+    y c.in_ok-operands.operands.left
+    c.in_ok-operands.operands.right (here c.args.state.now) (here c.begin_logical.new.state) c.requires.can.ready b0
+    (here c.walk_part.new.state) (bad_view b)
+    (c.in_err-walk_part.ensures.stopped b (other_error _ _ (rw (p.1, p.2) at e)))
+
+pub open_decided-returns-clause-opened : goal.open_decided-returns-clause-opened
+open_decided-returns-clause-opened t c =
+    let b0 = c.in_ok-operands.ensures.begins (code_of c.args.scope.now) in
+    let l = c.in_ok-operands.operands.left in
+    let r = c.in_ok-operands.operands.right in
+    let outside_ = here c.walk_part.new.state in
+    let w = c.in_ok-walk_part.ensures.walked in
+    λ x. record {
+      own = c.new.result.items;
+      is = c.in_ok-keep.ensures;
+      inside_is =
+          decided_inside (code_of c.args.scope.now) c.args.position c.new.result.items (here c.args.state.now)
+          c.args.wanted (here c.enter.new.self) r c.args.place x
+          (expr_view c.args.left.now) outside_ c.new.ensures.items c.requires.can
+          (follows_on (here c.args.state.now) (here c.begin_logical.new.state) outside_ b0.follows w.follows)
+          (decided_opens (code_of c.args.scope.now) c.args.wanted c.args.place c.args.position x
+          (expr_view c.args.left.now) (expr_view c.args.left.now) l r (here c.args.state.now)
+          (here c.begin_logical.new.state) c.requires.can.ready b0 outside_ w)
+          (still_live (here c.begin_logical.new.state) outside_ r w.follows b0.live.1.0) c.in_ok-enter.ensures;
+    }

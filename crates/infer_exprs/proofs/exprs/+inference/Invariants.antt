@@ -107,6 +107,15 @@ decreases-walk_arguments l = 8 * goal.size-walk_arguments l + 2
 abbrev pub decreases-open_link : goal.decreases-open_link
 decreases-open_link l = 8 * goal.size-open_link l
 
+abbrev pub decreases-open_composed : goal.decreases-open_composed
+decreases-open_composed l = 8 * goal.size-open_composed l + 3
+
+abbrev pub decreases-open_after : goal.decreases-open_after
+decreases-open_after l = 8 * goal.size-open_after l + 3
+
+abbrev pub decreases-open_decided : goal.decreases-open_decided
+decreases-open_decided l = 8 * goal.size-open_decided l + 2
+
 abbrev pub decreases-open_links : goal.decreases-open_links
 decreases-open_links l = 8 * goal.size-open_links l + 1
 

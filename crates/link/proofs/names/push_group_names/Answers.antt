@@ -1,10 +1,9 @@
 -- The names of a group, by its form.
-use Rattle.std.proofs.Common.{◌≡◌, [], ◌∷◌, ◌++◌, map, OnOk, subst, sym, ap, ◌∙◌, append-nil}
-use Rattle.elm_canon.specs.View.{group_view, function_view, pattern_view}
-use Rattle.elm_canon.specs.Tree.{functions_of}
+use Rattle.std.proofs.Common.{◌≡◌, ◌++◌, OnOk, subst, sym, ap, ◌∙◌, append-nil}
+use Rattle.elm_canon.specs.View.{group_view, pattern_view}
 use Rattle.elm_canon.specs.declared.tree.Group.{Group}
 use Rattle.elm_canon.proofs.Views.{together, constant, destructure}
-use Rattle.elm_canon.specs.Proper.{group_names, function_names}
+use Rattle.elm_canon.specs.Proper.{group_names}
 use Rattle.link.specs.Names.{top_names}
 use Rattle.link.proofs.Naming.{no_tops}
 use Rattle.link.proofs.names.push_group_names.Goals as goal
@@ -12,11 +11,10 @@ use Rattle.link.proofs.names.push_group_names.Goals as goal
 pub returns-in-Together : goal.returns-in-Together
 returns-in-Together c =
     let names = c.args.names.now.items in
-    subst (λ z. OnOk c.push_function_names.result (c.push_function_names.new.names.items ≡ names ++ z))
-    (ap (λ fs. top_names (function_names (functions_of (map function_view fs)))) c.deref.ensures.value
-    ∙ ap (λ g. top_names (group_names g)) (sym (together c.in-Together.functions))
+    subst (λ z. OnOk c.push_all_names.result (c.push_all_names.new.names.items ≡ names ++ z))
+    (ap (λ g. top_names (group_names g)) (sym (together c.in-Together.functions))
     ∙ ap (λ (g : Group). top_names (group_names (group_view g))) (sym c.in-Together.is))
-    c.push_function_names.ensures
+    c.push_all_names.ensures
 
 pub returns-in-Constant : goal.returns-in-Constant
 returns-in-Constant c =

@@ -7,14 +7,14 @@ use Rattle.canon_module.specs.View.{names_view}
 use Rattle.canon_module.proofs.Joining.{join_assoc, join_next}
 use Rattle.canon_module.proofs.names.Names.fill.Goals as goal
 
-pub loop-declaration-preserved : goal.loop-declaration-preserved
-loop-declaration-preserved c = λ tokens.
-    let i = c.loop-declaration.declaration-index in
-    let d = c.declaration-item.result in
+pub loop-number-preserved : goal.loop-number-preserved
+loop-number-preserved c = λ tokens.
+    let i = c.loop-number.number in
+    let d = c.at-declaration.result in
     let before = map (declaration_view tokens) (take i c.args.declarations.now) in
     let old = names_view tokens c.args.self.now in
     c.in_ok-push.ensures tokens
-    ∙ ap (λ n. join n (names_of (declaration_view tokens d))) (c.loop-declaration.invariant tokens)
+    ∙ ap (λ n. join n (names_of (declaration_view tokens d))) (c.loop-number.invariant tokens)
     ∙ join_assoc old (names_in before) (names_of (declaration_view tokens d))
     ∙ ap (join old) (join_next before (declaration_view tokens d)
-    ∙ ap names_in (sym (map_next (declaration_view tokens) c.args.declarations.now i d (omega arith) c.declaration-item.is)))
+    ∙ ap names_in (sym (map_next (declaration_view tokens) c.args.declarations.now i d (omega arith) c.at-declaration.ensures)))

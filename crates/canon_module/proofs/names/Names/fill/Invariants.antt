@@ -5,9 +5,9 @@ use Rattle.canon_module.specs.Names.{join, names_in}
 use Rattle.canon_module.specs.View.{names_view}
 use Rattle.canon_module.proofs.names.Names.fill.Given as goal
 
-abbrev pub invariant-loop-declaration : goal.invariant-loop-declaration
-invariant-loop-declaration l =
+abbrev pub invariant-loop-number : goal.invariant-loop-number
+invariant-loop-number l =
     (tokens : List Token) →
     names_view tokens l.self
     ≡ join (names_view tokens l.initial.self)
-    (names_in (map (declaration_view tokens) (take l.declaration-index l.declarations)))
+    (names_in (map (declaration_view tokens) (take l.number l.declarations)))

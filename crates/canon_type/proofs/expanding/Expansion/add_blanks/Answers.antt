@@ -10,6 +10,7 @@ use Rattle.std.specs.List.{slice_index_or}
 use Rattle.canon_type.specs.CanonAliasesKept.{IsExpanding, no_alias}
 use Rattle.canon_type.proofs.Steps.{at_map}
 use Rattle.canon_type.proofs.Grouping.{at_member, not_before}
+use Rattle.std.proofs.lemmas.List.{take_all}
 use Rattle.canon_type.proofs.expanding.Expansion.add_blanks.Goals as goal
 
 pub loop-place-preserved : goal.loop-place-preserved
@@ -33,3 +34,9 @@ loop-place-preserved c =
           (λ n. ⊎_elim (apart i m) (not_before places asc k 0 (omega arith)) (member_append placed (take k places) i n))
           (loops i m));
     }
+
+pub returns-clause-expanding : goal.returns-clause-expanding
+returns-clause-expanding c = λ s placed is home keeps same h asc apart loops.
+    subst (λ l. IsExpanding s c.loop-place.self.world c.loop-place.self.made.items (placed ++ l))
+    (take_all c.loop-place.place-index c.args.places.now (omega arith))
+    (c.loop-place.invariant.expanding s placed is home keeps same h asc apart loops)

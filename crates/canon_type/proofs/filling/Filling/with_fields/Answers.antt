@@ -2,7 +2,6 @@
 use Rattle.std.proofs.Common.{map, Some, None, sym, ap, ◌∙◌}
 use Rattle.std.specs.Prelude.{option_map, option_copied}
 use Rattle.std.proofs.lemmas.Result.{IfOk-weaker}
-use Rattle.elm_canon.specs.Tree as plain
 use Rattle.elm_canon.specs.Tree.{field_types_of}
 use Rattle.elm_canon.specs.View.{annotation_view, field_type_view}
 use Rattle.elm_canon.proofs.Views.{type_of_record}
@@ -20,11 +19,12 @@ returns-in-Some c =
     (ap (option_map (λ u. annotation_view u.value)) (ap option_copied (sym c.in-Some.is) ∙ c.get.ensures.value) ∙ h x)))
     c.extended.ensures
 
-pub returns-in_ok-clone-in-None : goal.returns-in_ok-clone-in-None
-returns-in_ok-clone-in-None c = λ s h.
+pub returns-in-None : goal.returns-in-None
+returns-in-None c =
     let F = field_types_of (map field_type_view c.args.fields.items) in
     let x = c.args.name.now in
-    type_of_record (Some c.in_ok-clone-in-None.field-0) c.args.fields
-    ∙ ap (λ z. plain.ExtendedType z F) c.in_ok-clone-in-None.ensures.cases
+    IfOk-weaker c.extended_type.result _ _
+    (λ r e s h. ap annotation_view e ∙ type_of_record (Some x) c.args.fields
     ∙ ap (λ u. extended u F) (found_in_filling s x None
-    (ap (option_map (λ u. annotation_view u.value)) (ap option_copied (sym c.in-None.is) ∙ c.get.ensures.value) ∙ h x))
+    (ap (option_map (λ u. annotation_view u.value)) (ap option_copied (sym c.in-None.is) ∙ c.get.ensures.value) ∙ h x)))
+    c.extended_type.ensures

@@ -16,8 +16,5 @@ returns c = λ each ns many was.
     known_now each ns c.args.name.now old (get same_top c.insert.new.self) (sym c.contains_key.ensures
     ∙ c.if-contains_key.false) was
     (λ x. c.in_ok-insert.ensures.updates.0 x
-    ∙ ap (λ z. if same_top z x then Some c.args.place else old x) (λ i. (
-      c.in_ok-clone.ensures.cases i,
-      c.in_ok-clone-2.ensures.cases i,
-    ))
+    ∙ ap (λ z. if same_top z x then Some c.args.place else old x) c.in_ok-key.ensures
     ∙ ap (λ n. if same_top c.args.name.now x then Some n else old x) (sym many))
