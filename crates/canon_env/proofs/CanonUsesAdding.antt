@@ -1,11 +1,11 @@
 -- One expression, branch, group or function more, and the fields of a value.
-use Rattle.std.proofs.Common.{◌≡◌, List, [], ◌∷◌, ◌++◌, refl, sym, ap, ◌∙◌, append_assoc, append-nil}
+use Rattle.std.proofs.Common.{◌≡◌, Bool, List, [], ◌∷◌, ◌++◌, refl, sym, ap, ◌∙◌, append_assoc, append-nil}
 use Rattle.elm_canon.specs.Names.{Name}
-use Rattle.elm_canon.specs.declared.reference.Ref.{Ref}
 use Rattle.elm_canon.specs.Tree.{Expr, Group, exprs_of, branches_of, groups_of, functions_of}
 use Rattle.elm_canon.specs.Tree.{Strict, Access, MoreExpr, NoExpr}
 use Rattle.elm_canon.specs.View.{accessed, BranchView, FunctionView}
 use Rattle.canon_env.specs.Uses.{expr_uses, exprs_uses, branches_uses, groups_uses, group_uses, functions_uses}
+use Rattle.canon_env.specs.Adds.{Adds}
 
 pub access_uses : (e : Expr) (xs : List Name) → expr_uses (accessed e xs) ≡ expr_uses e
 access_uses e [] = refl
@@ -37,7 +37,18 @@ functions_next (a ∷ fs) f =
     append_assoc (expr_uses a.2) (functions_uses (functions_of fs)) (expr_uses f.2)
     ∙ ap (λ us. expr_uses a.2 ++ us) (functions_next fs f)
 
--- a list that was added to, and one thing more
-pub also : (old new : List Ref) (us vs ws : List Ref) → new ≡ old ++ us → us ++ vs ≡ ws → new ++ vs ≡ old ++ ws
-also old new us vs ws e h =
-    ap (λ l. l ++ vs) e ∙ append_assoc old us vs ∙ ap (λ l. old ++ l) h
+-- nothing was added, and one thing after another
+pub nothing : {X : Type 0} → (b : Bool) (old : List X) → Adds b b old old []
+nothing b old = λ e. (e, sym (append-nil old))
+
+pub also : {X : Type 0} {a b c : Bool} {mid new : List X} (old us vs : List X) → Adds a b old mid us →
+    Adds b c mid new vs → Adds a c old new (us ++ vs)
+also old us vs f g = λ e.
+    let q = g e in
+    let p = f q.0 in
+    (p.0, q.1 ∙ ap (λ l. l ++ vs) p.1 ∙ append_assoc old us vs)
+
+-- the names that were added are these
+pub alike : {X : Type 0} {a b : Bool} {new us vs : List X} (old : List X) → us ≡ vs → Adds a b old new us →
+    Adds a b old new vs
+alike old e f = λ h. let p = f h in (p.0, p.1 ∙ ap (λ l. old ++ l) e)

@@ -1,6 +1,7 @@
 -- The names of an expression with which things are done: those before it, its own, and those after it.
-use Rattle.std.proofs.Common.{◌≡◌, List, [], ◌∷◌, ◌++◌, map, flat_map, reverse, refl, sym, ap, ◌∙◌, append_assoc, append-nil}
-use Rattle.std.proofs.lemmas.Grind.{flat_map-append, reverse_onto}
+use Rattle.std.proofs.Common.{◌≡◌, ℕ, ◌+◌, ◌-◌, ◌<◌, ◌≤◌, List, [], ◌∷◌, ◌++◌, length, get_or, drop, map, flat_map}
+use Rattle.std.proofs.Common.{refl, sym, ap, ◌∙◌, append_assoc, append-nil, arith}
+use Rattle.std.proofs.lemmas.List.{at_drop_more}
 use Rattle.elm_canon.specs.declared.reference.Ref.{Ref}
 use Rattle.elm_canon.specs.declared.tree.Link.{Link}
 use Rattle.elm_canon.specs.Tree.{Expr, exprs_of}
@@ -36,12 +37,17 @@ linked_uses e (l ∷ ls) =
     ∙ ap (λ us. us ++ after l ++ last) (sym (append_assoc first (before l) own))
     ∙ append_assoc (first ++ before l ++ own) (after l) last
 
--- from the last to the first
-pub turned : (ls : List Link) →
-    flat_map (λ l. before (link_view l)) (reverse ls) ≡ before_all (map link_view ls)
-turned [] = refl
-turned (l ∷ ls) =
-    ap (flat_map (λ k. before (link_view k))) (reverse_onto ls l [])
-    ∙ flat_map-append (λ k. before (link_view k)) (reverse ls) (l ∷ [])
-    ∙ ap (λ us. us ++ (before (link_view l) ++ [])) (turned ls)
-    ∙ ap (λ us. before_all (map link_view ls) ++ us) (append-nil (before (link_view l)))
+-- an item, and what follows it
+pub drop_at : {X : Type 0} (xs : List X) (i : ℕ) (x : X) → i < length xs → x ≡ get_or xs i x →
+    drop i xs ≡ x ∷ drop (i + 1) xs
+drop_at xs i x h is =
+    at_drop_more (λ zs. zs) xs i x h ∙ ap (λ z. z ∷ drop (i + 1) xs) (sym is)
+
+-- one thing more, from the last to the first
+pub one_before : (ls : List Link) (n : ℕ) (l : Link) → 0 < n → n ≤ length ls → l ≡ get_or ls (n - 1) l →
+    before_all (map link_view (drop n ls)) ++ before (link_view l)
+    ≡ before_all (map link_view (drop (n - 1) ls))
+one_before ls n l some le is =
+    let one : n - 1 + 1 ≡ n = omega (arith, some) in
+    ap (λ k. before_all (map link_view (drop k ls)) ++ before (link_view l)) (sym one)
+    ∙ sym (ap (λ ks. before_all (map link_view ks)) (drop_at ls (n - 1) l (omega (arith, some, le)) is))

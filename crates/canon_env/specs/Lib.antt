@@ -15,3 +15,4 @@ pub mod Patterns
 pub mod Repeats
 pub mod Uses
 pub mod Links
+pub mod Adds

@@ -15,9 +15,9 @@ use Rattle.canon_expr.specs.declared.order.Order.{Order}
 
 abbrev pub made_view : program.Made → Made
 made_view program.Made.Nothing = NoMade
-made_view (program.Made.Function title ps e) = MadeFunction (title_view title) (patterns_view ps.items) (expr_view e)
-made_view (program.Made.Constant title e) = MadeConstant (title_view title) (expr_view e)
-made_view (program.Made.Parts p e) = MadeParts (pattern_view p) (expr_view e)
+made_view (program.Made.Function title ps e) = MadeFunction (title_view title) (patterns_view ps.items) (expr_view e.value)
+made_view (program.Made.Constant title e) = MadeConstant (title_view title) (expr_view e.value)
+made_view (program.Made.Parts p e) = MadeParts (pattern_view p) (expr_view e.value)
 
 -- what the map from places to definitions says
 abbrev pub Binds : Binders → List (List Word) → Type 0

@@ -72,7 +72,6 @@ pub(crate) fn push_branch(
         ≡ map branch_view branches.old.items ++ (pattern_view pattern.value, expr_view body.value) ∷ []) }
 {
     let pattern = Box::into_inner(pattern);
-    let body = Box::into_inner(body);
     put(branches, Branch { pattern, body })
 }
 
@@ -104,7 +103,6 @@ pub(crate) fn defined_by(
 {
     let local = word_name(alloc, tokens, name)?;
     let before = before.take();
-    let value = Box::into_inner(value);
     Ok(made_named(
         tokens,
         Ref::Local(local),
@@ -122,6 +120,5 @@ pub(crate) fn parts_of(parts: Box<Pattern>, value: Box<Expr>) -> Made
     ensures { made_view result ≡ blocks.MadeParts (pattern_view parts.value) (expr_view value.value) }
 {
     let parts = Box::into_inner(parts);
-    let value = Box::into_inner(value);
     Made::Parts(parts, value)
 }

@@ -238,11 +238,7 @@ pub(crate) fn given_last(
     ensures { IfOk result (λ e. expr_view e.value ≡ Apply (expr_view function.value)
         (exprs_of (map expr_view arguments.items ++ expr_view last.value ∷ []))) }
 {
-    then(
-        alloc,
-        last,
-        Link::Given(Box::into_inner(function), arguments),
-    )
+    then(alloc, last, Link::Given(function, arguments))
 }
 
 /// A function with these arguments, if there are any. The error means that memory ran out.

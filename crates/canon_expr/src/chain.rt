@@ -108,7 +108,6 @@ fn computed_left(
     ensures { IfOk result (λ e. expr_view e.value
         ≡ spec.computed place operator (expr_view left.value) (expr_view right.value)) }
 {
-    let right = Box::into_inner(right);
     then(
         alloc,
         left,
@@ -151,7 +150,6 @@ fn decided(
 {
     let left = meaning(alloc, left)?;
     let right = meaning(alloc, right)?;
-    let left = Box::into_inner(left);
     let expr = then(alloc, right, Link::Decided(place, connective, left))?;
     plain(alloc, expr)
 }
@@ -167,8 +165,6 @@ fn composed(
     ensures { IfOk result (λ e. expr_view e.value
         ≡ spec.called (expr_view function.value) (expr_view left.value) (expr_view right.value)) }
 {
-    let function = Box::into_inner(function);
-    let right = Box::into_inner(right);
     then(alloc, left, Link::Composed(function, right))
 }
 

@@ -45,10 +45,10 @@ fn add_function(
     functions: &mut Vec<Function>,
     title: Title,
     parameters: Vec<Pattern>,
-    body: Expr,
+    body: Box<Expr>,
 ) -> Result<(), AllocError>
     ensures { OnOk result (map function_view functions.new.items ≡ map function_view functions.old.items
-        ++ (title_view title, patterns_view parameters.items, expr_view body) ∷ []) }
+        ++ (title_view title, patterns_view parameters.items, expr_view body.value) ∷ []) }
 {
     put(
         functions,
@@ -98,10 +98,10 @@ fn one_function(
     alloc: Global,
     title: Title,
     parameters: Vec<Pattern>,
-    body: Expr,
+    body: Box<Expr>,
 ) -> Result<Vec<Function>, AllocError>
     ensures { IfOk result (λ fs. map function_view fs.items
-        ≡ (title_view title, patterns_view parameters.items, expr_view body) ∷ []) }
+        ≡ (title_view title, patterns_view parameters.items, expr_view body.value) ∷ []) }
 {
     one_item(
         alloc,

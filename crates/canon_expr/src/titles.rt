@@ -33,13 +33,13 @@ pub fn made_named(
     written: &[tree::Pattern],
     parameters: Vec<Pattern>,
     body: &tree::Expr,
-    value: Expr,
+    value: Box<Expr>,
 ) -> Made
     ensures { made_view result ≡ spec.made_of
         (is_function (tree_view.patterns_view (tokens_view tokens.now) written.now)
         (tree_view.expr_view (tokens_view tokens.now) body.now))
         (spec.title_of name (word_view (tokens_view tokens.now) word).place (option_map annotation_view before))
-        (patterns_view parameters.items) (expr_view value) }
+        (patterns_view parameters.items) (expr_view value.value) }
 {
     let title = Title {
         name,

@@ -107,14 +107,7 @@ fn made_by(
 {
     let annotated = before.take();
     let made = made_named(
-        tokens,
-        title,
-        name,
-        annotated,
-        written,
-        parameters,
-        body,
-        Box::into_inner(value),
+        tokens, title, name, annotated, written, parameters, body, value,
     );
     value_item(alloc, made)
 }

@@ -161,11 +161,12 @@ fn push_all(exprs: &Vec<Expr>, signs: &mut Vec<Sign>) -> Result<(), AllocError>
 
 /// Adds a sign that is of no port, and those of an expression.
 #[cycle(signs)]
-fn push_formed(form: Form, expr: &Expr, signs: &mut Vec<Sign>) -> Result<(), AllocError>
-    ensures { OnOk result (signs.new.items ≡ signs.old.items ++ sign.Form form ∷ spec.signs (expr_view expr.now)) }
+fn push_formed(form: Form, expr: &Box<Expr>, signs: &mut Vec<Sign>) -> Result<(), AllocError>
+    ensures { OnOk result (signs.new.items
+        ≡ signs.old.items ++ sign.Form form ∷ spec.signs (expr_view expr.now.value)) }
 {
     push_form(form, signs)?;
-    push_signs(expr, signs)
+    push_boxed(expr, signs)
 }
 
 /// Adds the signs that stand before an expression with which these things are done: those of the last come first.
@@ -220,12 +221,12 @@ fn push_one_after(link: &Link, signs: &mut Vec<Sign>) -> Result<(), AllocError>
     match link {
         Link::Given(_, _) => push_form(Form::End, signs),
         Link::Composed(_, right) => {
-            push_signs(right, signs)?;
+            push_boxed(right, signs)?;
             push_form(Form::End, signs)
         }
         Link::After(op, _) => push_op_ends(op, signs),
         Link::Before(op, right) => {
-            push_signs(right, signs)?;
+            push_boxed(right, signs)?;
             push_op_ends(op, signs)
         }
         Link::Decided(_, _, _) => Ok(()),
@@ -241,7 +242,7 @@ fn push_branches(branches: &Vec<Branch>, signs: &mut Vec<Sign>) -> Result<(), Al
     for place in 0..branches.len() {
         let branch = &branches[place];
         push_pattern(&branch.pattern, signs)?;
-        push_signs(&branch.body, signs)?;
+        push_boxed(&branch.body, signs)?;
     }
     Ok(())
 }
@@ -268,10 +269,10 @@ pub(crate) fn push_group(group: &Group, signs: &mut Vec<Sign>) -> Result<(), All
             push_together(functions, signs)?;
             push_functions(functions, signs)
         }
-        Group::Constant(_, body) => push_signs(body, signs),
+        Group::Constant(_, body) => push_boxed(body, signs),
         Group::Destructure(pattern, body) => {
             push_pattern(pattern, signs)?;
-            push_signs(body, signs)
+            push_boxed(body, signs)
         }
     }
 }
@@ -286,7 +287,7 @@ fn push_functions(functions: &Vec<Function>, signs: &mut Vec<Sign>) -> Result<()
         let function = &functions[place];
         push_patterns(&function.parameters, signs)?;
         push_form(Form::End, signs)?;
-        push_signs(&function.body, signs)?;
+        push_boxed(&function.body, signs)?;
     }
     Ok(())
 }

@@ -225,15 +225,15 @@ chain e ls =
     ap expr_view (sym (expr.rolls-Chain e ls))
     ∙ fold-roll-Expr plain.Expr plain.Group LinkView BranchView FunctionView expr_step group_step link_step branch_step function_step (Expr-F.Chain e ls)
 
-pub given : (f : Expr) (es : Vec Expr Global) →
-    link_view (link.Given f es) ≡ view.Given (expr_view f) (map expr_view es.items)
+pub given : (f : Box Expr Global) (es : Vec Expr Global) →
+    link_view (link.Given f es) ≡ view.Given (expr_view f.value) (map expr_view es.items)
 unfolding annotation_view field_type_view pattern_view expr_view link_view branch_view group_view function_view payload_view payload_field_view
 given f es =
     ap link_view (sym (link.rolls-Given f es))
     ∙ fold-roll-Link plain.Expr plain.Group LinkView BranchView FunctionView expr_step group_step link_step branch_step function_step (Link-F.Given f es)
 
-pub composed : (f a : Expr) →
-    link_view (link.Composed f a) ≡ view.Composed (expr_view f) (expr_view a)
+pub composed : (f a : Box Expr Global) →
+    link_view (link.Composed f a) ≡ view.Composed (expr_view f.value) (expr_view a.value)
 unfolding annotation_view field_type_view pattern_view expr_view link_view branch_view group_view function_view payload_view payload_field_view
 composed f a =
     ap link_view (sym (link.rolls-Composed f a))
@@ -246,15 +246,15 @@ part_after o es =
     ap link_view (sym (link.rolls-After o es))
     ∙ fold-roll-Link plain.Expr plain.Group LinkView BranchView FunctionView expr_step group_step link_step branch_step function_step (Link-F.After o es)
 
-pub part_before : (o : Op) (a : Expr) →
-    link_view (link.Before o a) ≡ view.Before (op_view o) (expr_view a)
+pub part_before : (o : Op) (a : Box Expr Global) →
+    link_view (link.Before o a) ≡ view.Before (op_view o) (expr_view a.value)
 unfolding annotation_view field_type_view pattern_view expr_view link_view branch_view group_view function_view payload_view payload_field_view
 part_before o a =
     ap link_view (sym (link.rolls-Before o a))
     ∙ fold-roll-Link plain.Expr plain.Group LinkView BranchView FunctionView expr_step group_step link_step branch_step function_step (Link-F.Before o a)
 
-pub decided : (place : Pos) (c : Connective) (a : Expr) →
-    link_view (link.Decided place c a) ≡ view.Decided place c (expr_view a)
+pub decided : (place : Pos) (c : Connective) (a : Box Expr Global) →
+    link_view (link.Decided place c a) ≡ view.Decided place c (expr_view a.value)
 unfolding annotation_view field_type_view pattern_view expr_view link_view branch_view group_view function_view payload_view payload_field_view
 decided place c a =
     ap link_view (sym (link.rolls-Decided place c a))
@@ -288,26 +288,26 @@ together fs =
     ap group_view (sym (group.rolls-Together fs))
     ∙ fold-roll-Group plain.Expr plain.Group LinkView BranchView FunctionView expr_step group_step link_step branch_step function_step (Group-F.Together fs)
 
-pub constant : (t : Title) (e : Expr) →
-    group_view (group.Constant t e) ≡ plain.Constant (title_view t) (expr_view e)
+pub constant : (t : Title) (e : Box Expr Global) →
+    group_view (group.Constant t e) ≡ plain.Constant (title_view t) (expr_view e.value)
 unfolding annotation_view field_type_view pattern_view expr_view link_view branch_view group_view function_view payload_view payload_field_view
 constant t e =
     ap group_view (sym (group.rolls-Constant t e))
     ∙ fold-roll-Group plain.Expr plain.Group LinkView BranchView FunctionView expr_step group_step link_step branch_step function_step (Group-F.Constant t e)
 
-pub destructure : (p : Pattern) (e : Expr) →
-    group_view (group.Destructure p e) ≡ plain.Destructure (pattern_view p) (expr_view e)
+pub destructure : (p : Pattern) (e : Box Expr Global) →
+    group_view (group.Destructure p e) ≡ plain.Destructure (pattern_view p) (expr_view e.value)
 unfolding annotation_view field_type_view pattern_view expr_view link_view branch_view group_view function_view payload_view payload_field_view
 destructure p e =
     ap group_view (sym (group.rolls-Destructure p e))
     ∙ fold-roll-Group plain.Expr plain.Group LinkView BranchView FunctionView expr_step group_step link_step branch_step function_step (Group-F.Destructure p e)
 
-pub branch : (b : Branch) → branch_view b ≡ (pattern_view b.pattern, expr_view b.body)
+pub branch : (b : Branch) → branch_view b ≡ (pattern_view b.pattern, expr_view b.body.value)
 unfolding annotation_view field_type_view pattern_view expr_view link_view branch_view group_view function_view payload_view payload_field_view
 branch b = fold_out-Branch plain.Expr plain.Group LinkView BranchView FunctionView expr_step group_step link_step branch_step function_step b
 
 pub function : (f : Function) →
-    function_view f ≡ (title_view f.title, patterns_view f.parameters.items, expr_view f.body)
+    function_view f ≡ (title_view f.title, patterns_view f.parameters.items, expr_view f.body.value)
 unfolding annotation_view field_type_view pattern_view expr_view link_view branch_view group_view function_view payload_view payload_field_view
 function f = fold_out-Function plain.Expr plain.Group LinkView BranchView FunctionView expr_step group_step link_step branch_step function_step f
 

@@ -165,22 +165,22 @@ expr_step (Expr-F.Case e bs) = plain.Case e.value (branches_of bs.items)
 expr_step (Expr-F.Located place e) = plain.Located place e.value
 
 abbrev pub link_step : Link-F plain.Expr plain.Group LinkView BranchView FunctionView → LinkView
-link_step (Link-F.Given f es) = Given f es.items
-link_step (Link-F.Composed f a) = Composed f a
+link_step (Link-F.Given f es) = Given f.value es.items
+link_step (Link-F.Composed f a) = Composed f.value a.value
 link_step (Link-F.After o es) = After (op_view o) es.items
-link_step (Link-F.Before o a) = Before (op_view o) a
-link_step (Link-F.Decided place c a) = Decided place c a
+link_step (Link-F.Before o a) = Before (op_view o) a.value
+link_step (Link-F.Decided place c a) = Decided place c a.value
 
 abbrev pub branch_step : Branch-F plain.Expr plain.Group LinkView BranchView FunctionView → BranchView
-branch_step b = (pattern_view b.pattern, b.body)
+branch_step b = (pattern_view b.pattern, b.body.value)
 
 abbrev pub group_step : Group-F plain.Expr plain.Group LinkView BranchView FunctionView → plain.Group
 group_step (Group-F.Together fs) = plain.Together (functions_of fs.items)
-group_step (Group-F.Constant t e) = plain.Constant (title_view t) e
-group_step (Group-F.Destructure p e) = plain.Destructure (pattern_view p) e
+group_step (Group-F.Constant t e) = plain.Constant (title_view t) e.value
+group_step (Group-F.Destructure p e) = plain.Destructure (pattern_view p) e.value
 
 abbrev pub function_step : Function-F plain.Expr plain.Group LinkView BranchView FunctionView → FunctionView
-function_step f = (title_view f.title, patterns_view f.parameters.items, f.body)
+function_step f = (title_view f.title, patterns_view f.parameters.items, f.body.value)
 
 unfoldable pub expr_view : Expr → plain.Expr
 expr_view =

@@ -151,15 +151,15 @@ pub enum Expr {
 #[derive(Drop)]
 pub enum Link {
     /// `f a _`: it is the last argument of a function. `_ |> f a`, `f a <| _`, `a ^ _` and `a << _` are such.
-    Given(Expr, Vec<Expr>),
+    Given(Box<Expr>, Vec<Expr>),
     /// `f _ a`: it is the first argument of a function. `_ >> a` is such.
-    Composed(Expr, Expr),
+    Composed(Box<Expr>, Box<Expr>),
     /// It is the last part, after these: `C a _` and `a :: _`.
     After(Op, Vec<Expr>),
     /// It is the first part, before this: `_ + a`.
-    Before(Op, Expr),
+    Before(Op, Box<Expr>),
     /// `a && _` or `a || _`, whose operator stands there.
-    Decided(Pos, Connective, Expr),
+    Decided(Pos, Connective, Box<Expr>),
 }
 
 /// A branch of a `case`.
@@ -167,7 +167,7 @@ pub enum Link {
 #[derive(Drop)]
 pub struct Branch {
     pub pattern: Pattern,
-    pub body: Expr,
+    pub body: Box<Expr>,
 }
 
 /// Definitions that use each other. A group stands after those that it uses.
@@ -177,9 +177,9 @@ pub enum Group {
     /// Functions that may use each other, by their places.
     Together(Vec<Function>),
     /// A definition that is not a function and does not use itself.
-    Constant(Title, Expr),
+    Constant(Title, Box<Expr>),
     /// `p = e`
-    Destructure(Pattern, Expr),
+    Destructure(Pattern, Box<Expr>),
 }
 
 /// A function that is defined. If it has no parameters, the body is a lambda.
@@ -188,7 +188,7 @@ pub enum Group {
 pub struct Function {
     pub title: Title,
     pub parameters: Vec<Pattern>,
-    pub body: Expr,
+    pub body: Box<Expr>,
 }
 
 /// What crosses a port.

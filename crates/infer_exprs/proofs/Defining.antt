@@ -153,7 +153,7 @@ function_definition (g ∷ gs) (suc i) f e = function_definition gs i f e
 -- the list of a definition that is a function of the program
 pub function_list : (fs : List Function) (i : ℕ) (f : Function) (d : Definition) → slice_get fs i ≡ Some f
     → slice_get (function_definitions (functions_of (map function_view fs))) i ≡ Some d
-    → d.list ≡ (λ scope q w. function_of (map pattern_view f.parameters.items) (expr_view f.body) f.title.place scope q
+    → d.list ≡ (λ scope q w. function_of (map pattern_view f.parameters.items) (expr_view f.body.value) f.title.place scope q
     w)
 function_list fs i f d e at =
     let there = slice_get-map function_view fs i ∙ ap (option_map function_view) e ∙ ap (λ v. Some v) (view.function f)
@@ -170,12 +170,12 @@ constant_list t e (suc i) d at = absurd cc
 -- what is asked of a function of a group
 pub function_formed : (fs : List Function) (i : ℕ) (f : Function) → slice_get fs i ≡ Some f
     → FormedFunctions (functions_of (map function_view fs))
-    → EachFieldsOnce (patterns_of (map pattern_view f.parameters.items)) × Formed (expr_view f.body)
+    → EachFieldsOnce (patterns_of (map pattern_view f.parameters.items)) × Formed (expr_view f.body.value)
 function_formed [] i f e h = absurd cc
 function_formed (g ∷ gs) zero f e h =
     let one = subst (λ (v : FunctionView). EachFieldsOnce v.1 × Formed v.2) (view.function g) (h.1.0, h.1.1.0) in
     subst (λ (k : Function). EachFieldsOnce (patterns_of (map pattern_view k.parameters.items)) × Formed
-    (expr_view k.body))
+    (expr_view k.body.value))
     (some_same g f e) one
 function_formed (g ∷ gs) (suc i) f e h = function_formed gs i f e h.1.1.1
 

@@ -5,6 +5,7 @@ use Rattle.std.specs.Prelude.{slice_get, option_map}
 use Rattle.std.specs.Borrow.{Bor}
 use Rattle.std.specs.declared.alloc.Global.{Global}
 use Rattle.std.specs.declared.vec.Vec.{Vec}
+use Rattle.std.specs.declared.boxed.Box.{Box}
 use Rattle.std.proofs.lemmas.Bool.{ltb-true, ltb-false}
 use Rattle.std.proofs.lemmas.Option.{slice_get-map, slice_get_read, slice_get_past, same_Some}
 use Rattle.elm_canon.specs.Tree as plain
@@ -47,29 +48,29 @@ module _ (g : Group) (fs : Vec Function Global) (i : ℕ) (is : g ≡ group.Toge
 
   module _ (f : Function) (lt : true ≡ ltb i (length xs)) (at : f ≡ get_or xs i f) (d : Definition)
       (found : in_group (Some (group_view g)) i ≡ Some d) where
-    pub function_is : d ≡ def_of (title_view f.title, (function_view f).1, expr_view f.body)
+    pub function_is : d ≡ def_of (title_view f.title, (function_view f).1, expr_view f.body.value)
     function_is =
-        there (in_group (Some (group_view g)) i) (def_of (title_view f.title, (function_view f).1, expr_view f.body)) d
+        there (in_group (Some (group_view g)) i) (def_of (title_view f.title, (function_view f).1, expr_view f.body.value)) d
         (functions
         ∙ ap (λ o. option_map def_of (option_map function_view o))
         (ap (λ l. slice_get l i) (sym here) ∙ slice_get_read xs (length xs) i f refl (ltb-true i (length xs) (sym lt))
         at)
         ∙ ap (λ (v : FunctionView). Some (def_of v))
-        (view.function f ∙ ap (λ q. (title_view f.title, q, expr_view f.body))
+        (view.function f ∙ ap (λ q. (title_view f.title, q, expr_view f.body.value))
         (sym (ap (λ (v : FunctionView). v.1) (view.function f)))))
         found
 
     pub function_titled : IsTitled (title_view f.title) d
     function_titled = record {
-      uses = used (expr_view f.body);
-      list = λ scope p v. function_items (function_view f).1 (items (expr_view f.body)) scope f.title.place p v;
+      uses = used (expr_view f.body.value);
+      list = λ scope p v. function_items (function_view f).1 (items (expr_view f.body.value)) scope f.title.place p v;
       is = function_is;
     }
 
     pub function_names : d.names ≡ f.title.name ∷ []
     function_names = ap (λ (x : Definition). x.names) function_is
 
-    pub function_uses : d.uses ≡ used (expr_view f.body)
+    pub function_uses : d.uses ≡ used (expr_view f.body.value)
     function_uses = ap (λ (x : Definition). x.uses) function_is
 
   pub no_function : false ≡ ltb i (length xs) → (d : Definition) → in_group (Some (group_view g)) i ≡ Some d → ⊥
@@ -89,25 +90,25 @@ alone x d (suc i) e = absurd cc
 
 -- ---- a constant
 
-module _ (g : Group) (t : Title) (e : Expr) (i : ℕ) (is : g ≡ group.Constant t e) where
+module _ (g : Group) (t : Title) (e : Box Expr Global) (i : ℕ) (is : g ≡ group.Constant t e) where
   module _ (d : Definition) (found : in_group (Some (group_view g)) i ≡ Some d) where
-    constant_is : d ≡ def_of (title_view t, plain.NoPattern, expr_view e)
+    constant_is : d ≡ def_of (title_view t, plain.NoPattern, expr_view e.value)
     constant_is =
-        alone (def_of (title_view t, plain.NoPattern, expr_view e)) d i
+        alone (def_of (title_view t, plain.NoPattern, expr_view e.value)) d i
         (sym (ap (λ x. in_group (Some (group_view x)) i) is ∙ ap (λ x. slice_get (group_definitions x) i)
         (view.constant t e)) ∙ found)
 
     pub constant_titled : IsTitled (title_view t) d
     constant_titled = record {
-      uses = used (expr_view e);
-      list = λ scope p v. function_items plain.NoPattern (items (expr_view e)) scope t.place p v;
+      uses = used (expr_view e.value);
+      list = λ scope p v. function_items plain.NoPattern (items (expr_view e.value)) scope t.place p v;
       is = constant_is;
     }
 
     pub constant_names : d.names ≡ t.name ∷ []
     constant_names = ap (λ (x : Definition). x.names) constant_is
 
-    pub constant_uses : d.uses ≡ used (expr_view e)
+    pub constant_uses : d.uses ≡ used (expr_view e.value)
     constant_uses = ap (λ (x : Definition). x.uses) constant_is
 
   pub constant_has_title : has_titles (Some (group_view g)) ≡ true
@@ -119,18 +120,18 @@ abbrev one_of : List Definition → Definition → Definition
 one_of [] d = d
 one_of (x ∷ xs) d = x
 
-module _ (g : Group) (p : Pattern) (e : Expr) (i : ℕ) (is : g ≡ group.Destructure p e) where
+module _ (g : Group) (p : Pattern) (e : Box Expr Global) (i : ℕ) (is : g ≡ group.Destructure p e) where
   module _ (d : Definition) (found : in_group (Some (group_view g)) i ≡ Some d) where
-    pattern_is : d ≡ one_of (group_definitions (plain.Destructure (pattern_view p) (expr_view e))) d
+    pattern_is : d ≡ one_of (group_definitions (plain.Destructure (pattern_view p) (expr_view e.value))) d
     pattern_is =
-        alone (one_of (group_definitions (plain.Destructure (pattern_view p) (expr_view e))) d) d i
+        alone (one_of (group_definitions (plain.Destructure (pattern_view p) (expr_view e.value))) d) d i
         (sym (ap (λ x. in_group (Some (group_view x)) i) is ∙ ap (λ x. slice_get (group_definitions x) i)
         (view.destructure p e)) ∙ found)
 
     pub pattern_names : d.names ≡ bound_by (pattern_view p)
     pattern_names = ap (λ (x : Definition). x.names) pattern_is
 
-    pub pattern_uses : d.uses ≡ used (expr_view e)
+    pub pattern_uses : d.uses ≡ used (expr_view e.value)
     pattern_uses = ap (λ (x : Definition). x.uses) pattern_is
 
     pub pattern_annotation : d.annotation ≡ None

@@ -1,13 +1,14 @@
 -- The code's scope said by another name, and branches at their numbers.
-use Rattle.std.proofs.Common.{Result, Err, rules, ◌≡◌, ℕ, zero, suc, ◌+◌, ◌<◌, ◌≤◌, List, [], ◌∷◌, ◌++◌, length, map}
+use Rattle.std.proofs.Common.{Result, Err, ◌≡◌, ℕ, zero, suc, ◌+◌, ◌<◌, ◌≤◌, List, [], ◌∷◌, ◌++◌, length, map}
 use Rattle.std.proofs.Common.{take, drop}
 use Rattle.std.proofs.Common.{get_or, refl, sym, ap, ◌∙◌, subst, arith}
 use Rattle.elm_base.specs.declared.position.Pos.{Pos}
 use Rattle.std.specs.List.{AllByRecursion}
 use Rattle.elm_canon.specs.Tree.{Pattern, Expr, branches_of}
 use Rattle.elm_canon.specs.View.{branch_view, pattern_view, expr_view}
+use Rattle.elm_canon.proofs.Views as view
+use Rattle.elm_canon.proofs.Views as view
 use Rattle.elm_canon.specs.declared.tree.Branch.{Branch}
-use Rattle.elm_canon.specs.declared.tree.Expr.{the_lemmas}
 use Rattle.type_items.specs.Items.{Place, child, Wanted}
 use Rattle.type_constructs.specs.Failing.{Bad}
 use Rattle.type_walks.specs.Regions.{Region, below}
@@ -38,9 +39,8 @@ stuck_at {W = W} {says = says} {R = R} {list = list} {old = old} {new = new} {ba
 
 -- ---- branches
 
-pub branch_is : (b : Branch) → branch_view b ≡ (pattern_view b.pattern, expr_view b.body)
-unfolding branch_view expr_view
-branch_is b = search (rules, the_lemmas)
+pub branch_is : (b : Branch) → branch_view b ≡ (pattern_view b.pattern, expr_view b.body.value)
+branch_is b = view.branch b
 
 pub formed_branch : (bs : List Branch) (i : ℕ) (b : Branch) → i < length bs → b ≡ get_or bs i b
     → FormedBranches (branches_of (map branch_view bs)) → FieldsOnce (branch_view b).0 × Formed (branch_view b).1

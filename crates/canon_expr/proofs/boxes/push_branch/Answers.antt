@@ -10,7 +10,5 @@ pub returns : goal.returns
 returns c =
     on_ok_weaker c.put.result (λ is.
     pushed branch_view c.args.branches.now.items _ _ _ _ is refl
-    (views.branch _
-    ∙ ap (λ p. (pattern_view p, expr_view c.into_inner-body.result)) c.into_inner-pattern.ensures
-    ∙ ap (λ e. (pattern_view c.args.pattern.value, expr_view e)) c.into_inner-body.ensures))
+    (views.branch _ ∙ ap (λ p. (pattern_view p, expr_view c.args.body.value)) c.into_inner-pattern.ensures))
     c.put.ensures

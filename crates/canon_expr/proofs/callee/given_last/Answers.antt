@@ -1,8 +1,6 @@
 -- The last argument is the first of a chain.
-use Rattle.std.proofs.Common.{[], ◌∷◌, ◌++◌, map, ap, ◌∙◌}
+use Rattle.std.proofs.Common.{ap, ◌∙◌}
 use Rattle.std.proofs.lemmas.Result.{IfOk-weaker}
-use Rattle.elm_canon.specs.declared.tree.Expr.{Expr}
-use Rattle.elm_canon.specs.Tree.{Apply, exprs_of}
 use Rattle.elm_canon.specs.View.{expr_view, done}
 use Rattle.elm_canon.proofs.Views as views
 use Rattle.canon_expr.proofs.callee.given_last.Goals as goal
@@ -10,8 +8,6 @@ use Rattle.canon_expr.proofs.callee.given_last.Goals as goal
 pub returns : goal.returns
 returns c =
     let last = expr_view c.args.last.value in
-    let es = c.args.arguments in
     IfOk-weaker c.then.result _ _
-    (λ e is. is ∙ ap (λ l. done l last) (views.given c.into_inner.result es)
-    ∙ ap (λ (g : Expr). Apply (expr_view g) (exprs_of (map expr_view es.items ++ last ∷ []))) c.into_inner.ensures)
+    (λ e is. is ∙ ap (λ l. done l last) (views.given c.args.function c.args.arguments))
     c.then.ensures

@@ -122,30 +122,30 @@ push_group-returns-in_ok-push_together-in-Together t c =
 
 pub push_group-returns-in-Constant : goal.push_group-returns-in-Constant
 push_group-returns-in-Constant t c =
-    simp (c.in-Constant.is, constant c.in-Constant.field-0 c.in-Constant.body) c.push_signs.ensures
+    simp (c.in-Constant.is, constant c.in-Constant.field-0 c.in-Constant.body) c.push_boxed.ensures
 
 pub push_group-returns-in_ok-push_pattern-in-Destructure : goal.push_group-returns-in_ok-push_pattern-in-Destructure
 push_group-returns-in_ok-push_pattern-in-Destructure t c =
     simp (c.in-Destructure.is, destructure c.in-Destructure.pattern c.in-Destructure.body)
-    (simp (c.in_ok-push_pattern-in-Destructure.ensures, append_assoc) at c.push_signs-in-Destructure.ensures)
+    (simp (c.in_ok-push_pattern-in-Destructure.ensures, append_assoc) at c.push_boxed-in-Destructure.ensures)
 
 pub push_one_after-returns-in-Given : goal.push_one_after-returns-in-Given
 push_one_after-returns-in-Given t c =
     simp (c.in-Given.is, view.given c.in-Given.field-0 c.in-Given.field-1) c.push_form.ensures
 
-pub push_one_after-returns-in_ok-push_signs-in-Composed : goal.push_one_after-returns-in_ok-push_signs-in-Composed
-push_one_after-returns-in_ok-push_signs-in-Composed t c =
+pub push_one_after-returns-in_ok-push_boxed-in-Composed : goal.push_one_after-returns-in_ok-push_boxed-in-Composed
+push_one_after-returns-in_ok-push_boxed-in-Composed t c =
     simp (c.in-Composed.is, view.composed c.in-Composed.field-0 c.in-Composed.right)
-    (simp (c.in_ok-push_signs-in-Composed.ensures, append_assoc) at c.push_form-in-Composed.ensures)
+    (simp (c.in_ok-push_boxed-in-Composed.ensures, append_assoc) at c.push_form-in-Composed.ensures)
 
 pub push_one_after-returns-in-After : goal.push_one_after-returns-in-After
 push_one_after-returns-in-After t c =
     simp (c.in-After.is, view.part_after c.in-After.op c.in-After.field-1) c.push_op_ends.ensures
 
-pub push_one_after-returns-in_ok-push_signs-in-Before : goal.push_one_after-returns-in_ok-push_signs-in-Before
-push_one_after-returns-in_ok-push_signs-in-Before t c =
+pub push_one_after-returns-in_ok-push_boxed-in-Before : goal.push_one_after-returns-in_ok-push_boxed-in-Before
+push_one_after-returns-in_ok-push_boxed-in-Before t c =
     simp (c.in-Before.is, view.part_before c.in-Before.op c.in-Before.right)
-    (simp (c.in_ok-push_signs-in-Before.ensures, append_assoc) at c.push_op_ends-in-Before.ensures)
+    (simp (c.in_ok-push_boxed-in-Before.ensures, append_assoc) at c.push_op_ends-in-Before.ensures)
 
 pub push_one_after-returns-in-Decided : goal.push_one_after-returns-in-Decided
 push_one_after-returns-in-Decided t c =
@@ -159,7 +159,7 @@ pub push_boxed-returns : goal.push_boxed-returns
 push_boxed-returns t c = simp c.deref.ensures at c.push_signs.ensures
 
 pub push_formed-returns : goal.push_formed-returns
-push_formed-returns t c = simp (c.in_ok-push_form.ensures, append_assoc) at c.push_signs.ensures
+push_formed-returns t c = simp (c.in_ok-push_form.ensures, append_assoc) at c.push_boxed.ensures
 
 pub push_one_before-returns-in_ok-push_formed-in-Given : goal.push_one_before-returns-in_ok-push_formed-in-Given
 push_one_before-returns-in_ok-push_formed-in-Given t c =
@@ -250,12 +250,12 @@ push_branches-loop-place-preserved t c =
     let before = map branch_view (take i c.args.branches.now.items) in
     let next = map_next branch_view c.args.branches.now.items i x (omega arith) c.index-branch.ensures in
     simp (
-      c.in_ok-push_signs.ensures,
+      c.in_ok-push_boxed.ensures,
       c.in_ok-push_pattern.ensures,
       c.loop-place.invariant,
       next,
       branch x,
-      sym (branches_next before (pattern_view x.pattern, expr_view x.body)),
+      sym (branches_next before (pattern_view x.pattern, expr_view x.body.value)),
       append_assoc,
     )
 
@@ -266,12 +266,12 @@ push_functions-loop-place-preserved t c =
     let before = map function_view (take i c.args.functions.now.items) in
     let next = map_next function_view c.args.functions.now.items i x (omega arith) c.index-function.ensures in
     simp (
-      c.in_ok-push_signs.ensures,
+      c.in_ok-push_boxed.ensures,
       c.in_ok-push_form.ensures,
       c.in_ok-push_patterns.ensures,
       c.loop-place.invariant,
       next,
       function x,
-      sym (functions_next before (title_view x.title, patterns_view x.parameters.items, expr_view x.body)),
+      sym (functions_next before (title_view x.title, patterns_view x.parameters.items, expr_view x.body.value)),
       append_assoc,
     )

@@ -5,7 +5,9 @@ use Rattle.std.proofs.lemmas.List.{length-map, length-take, map-append, nil_from
 use Rattle.std.proofs.lemmas.Result.{on_ok_weaker, IfOk-weaker}
 use Rattle.elm_canon.specs.Tree.{Expr, exprs_of, branches_of, groups_of, functions_of}
 use Rattle.elm_canon.specs.View.{expr_view, pattern_view, patterns_view, op_view, link_view, branch_view, group_view}
-use Rattle.elm_canon.specs.View.{function_view, accessed, linked, done}
+use Rattle.elm_canon.specs.View.{function_view, title_view, accessed, linked, done}
+use Rattle.elm_canon.specs.Tree as plain
+use Rattle.elm_canon.specs.View as chained
 use Rattle.elm_canon.proofs.Views as view
 use Rattle.js_tree.specs.Tree.{Made, JVar, JArrow, JCall, JProperty, Const, Return}
 use Rattle.js_tree.specs.Postorder.{Tree, Expression, BlockOf, StatementsOf, NoStatement, ConstThen, NoItem, Item, apply}
@@ -553,7 +555,8 @@ push_branch-returns t c =
     let place = loop_view c.args.place.now in
     let b = c.args.branch.now in
     let i = Made c.args.subject in
-    let e = expr_view b.body in
+    let e = expr_view c.deref.result.now in
+    let law = view.branch b ∙ ap (λ x. (pattern_view b.pattern, expr_view x)) (sym c.deref.ensures) in
     let kept : trees_of c.push_consts.new.trees ≡ StatementsOf (statements (top (trees_of c.push_consts.new.trees))) ∷ t0 =
     c.in_ok-push_consts.ensures.kind
     ∙ ap (λ u. StatementsOf (statements (top (trees_of c.push_consts.new.trees))) ∷ below u) c.in_ok-push.ensures.trees in
@@ -565,11 +568,11 @@ push_branch-returns t c =
           (λ is. is ∙ ap (apply node.Node.Ended) (c.in_ok-push_block.ensures.emitted ∙ ap (λ u. BlockOf (emit d place e) ∷ u) kept)
           ∙ ap (λ s. BlockOf s ∷ t0) (c.in_ok-push_consts.ensures.consts (emit d place e)
           ∙ ap (λ x. statements_then x (consts (pattern_view b.pattern) (JVar i) (emit d place e))) begins)
-          ∙ ap (λ v. BlockOf (consts v.0 (JVar i) (emit d place v.1)) ∷ t0) (sym (view.branch b)))
+          ∙ ap (λ v. BlockOf (consts v.0 (JVar i) (emit d place v.1)) ∷ t0) (sym law))
           c.push-2.ensures.trees;
       counted =
           always c.push-2.result
-          (c.in_ok-push_block.ensures.counted ∙ ap (λ v. d + made_in place v.1) (sym (view.branch b)));
+          (c.in_ok-push_block.ensures.counted ∙ ap (λ v. d + made_in place v.1) (sym law));
     }
 
 -- ---- functions
@@ -601,17 +604,22 @@ push_function-returns-else-is_loop t c =
     let g = c.args.function.now in
     let f = g.title.name in
     let ps = patterns_view g.parameters.items in
-    let e = expr_view g.body in
-    let no : is_loop f ps e ≡ false = sym c.is_loop.ensures ∙ c.if-is_loop.false in
+    let e = expr_view g.body.value in
+    let no : is_loop f ps e ≡ false =
+    ap (λ x. is_loop f ps (expr_view x)) (sym c.deref.ensures) ∙ sym c.is_loop.ensures ∙ c.if-is_loop.false in
     record {
       emitted =
           on_ok_weaker c.push_arrows.result
-          (λ h. h ∙ ap (λ s. Expression (now s) ∷ t0) (sym (function_returns d f ps e no))
+          (λ h. h
+          ∙ ap (λ x. Expression (now (arrows d ps (emit (d + made_for ps) Outside (expr_view x)))) ∷ t0)
+          c.deref-else-is_loop.ensures
+          ∙ ap (λ s. Expression (now s) ∷ t0) (sym (function_returns d f ps e no))
           ∙ ap (λ v. Expression (function_at d v) ∷ t0) (sym (view.function g)))
           c.push_arrows.ensures.emitted;
       counted =
           on_ok_weaker c.push_arrows.result
-          (λ h. h ∙ ap (λ n. d + n) (sym (made_returns f ps e no)) ∙ ap (λ v. d + made_by v) (sym (view.function g)))
+          (λ h. h ∙ ap (λ x. d + (made_for ps + made_in Outside (expr_view x))) c.deref-else-is_loop.ensures
+          ∙ ap (λ n. d + n) (sym (made_returns f ps e no)) ∙ ap (λ v. d + made_by v) (sym (view.function g)))
           c.push_arrows.ensures.counted;
     }
 
@@ -622,21 +630,24 @@ push_function-returns-in_ok-push_block t c =
     let g = c.args.function.now in
     let f = g.title.name in
     let ps = patterns_view g.parameters.items in
-    let e = expr_view g.body in
+    let e = expr_view g.body.value in
     let n = length g.parameters.items in
     let place = loop_view c.in_ok-place.place in
     let m1 = c.begin_loop.new.made in
     let t1 = trees_of c.begin_loop.new.trees in
     let inner = statements (top t1) in
     let outer = statements (top (below t1)) in
-    let yes : is_loop f ps e ≡ true = sym c.is_loop.ensures ∙ c.if-is_loop.true in
+    let yes : is_loop f ps e ≡ true =
+    ap (λ x. is_loop f ps (expr_view x)) (sym c.deref.ensures) ∙ sym c.is_loop.ensures ∙ c.if-is_loop.true in
     let many : n ≡ count_of ps =
     sym (count_of_patterns (map pattern_view g.parameters.items) ∙ length-map g.parameters.items pattern_view) in
     let at : place ≡ loop_of d f ps = c.in_ok-place.ensures in
     let count : c.len.result ≡ n = omega (arith, c.len.ensures) in
     let body : trees_of c.push_block.new.trees
     ≡ BlockOf (emit m1 place e) ∷ StatementsOf inner ∷ StatementsOf outer ∷ opens c.len.result t0 =
-    c.in_ok-push_block.ensures.emitted ∙ ap (λ u. BlockOf (emit m1 place e) ∷ u) c.in_ok-begin_loop.ensures.begun
+    c.in_ok-push_block.ensures.emitted
+    ∙ ap (λ x. BlockOf (emit m1 place (expr_view x)) ∷ t1) c.deref-then-is_loop.ensures
+    ∙ ap (λ u. BlockOf (emit m1 place e) ∷ u) c.in_ok-begin_loop.ensures.begun
     ∙ ap (λ k. BlockOf (emit m1 place e) ∷ StatementsOf inner ∷ StatementsOf outer ∷ opens k t0) (sym count) in
     let made : made_in place e ≡ made_in (loop_of 0 f ps) e = ap (λ p. made_in p e) at ∙ made_anywhere d f ps e in
     record {
@@ -650,7 +661,14 @@ push_function-returns-in_ok-push_block t c =
           c.end_loop.ensures;
       counted =
           let all : c.push_block.new.made ≡ d + (count_of ps + count_of ps + (made_for ps + made_in (loop_of 0 f ps) e)) =
-          omega (arith, c.in_ok-push_block.ensures.counted, c.in_ok-begin_loop.ensures.counted, many, made) in
+          omega (
+            arith,
+            c.in_ok-push_block.ensures.counted,
+            c.in_ok-begin_loop.ensures.counted,
+            many,
+            made,
+            ap (λ x. made_in place (expr_view x)) c.deref-then-is_loop.ensures,
+          ) in
           always c.end_loop.result
           (all ∙ ap (λ k. d + k) (sym (made_loops f ps e yes)) ∙ ap (λ v. d + made_by v) (sym (view.function g)));
     }
@@ -661,8 +679,9 @@ pub push_before-returns-in_ok-push_value-in-Given : goal.push_before-returns-in_
 push_before-returns-in_ok-push_value-in-Given t c =
     let d = c.args.made.now in
     let t0 = trees_of c.args.trees.now in
-    let law = view.given c.in-Given.callee c.in-Given.arguments in
-    let f = expr_view c.in-Given.callee in
+    let law = view.given c.in-Given.callee c.in-Given.arguments
+    ∙ ap (λ x. chained.Given (expr_view x) (map expr_view c.in-Given.arguments.items)) (sym c.deref.ensures) in
+    let f = expr_view c.deref.result.now in
     let es = exprs_of (map expr_view c.in-Given.arguments.items) in
     let next = c.in_ok-push_value-in-Given.ensures.counted in
     record {
@@ -685,8 +704,10 @@ push_before-returns-in-Composed t c =
     let t0 = trees_of c.args.trees.now in
     let t1 = trees_of c.push_value-in-Composed.new.trees in
     let l = link_view c.args.link.now in
-    let law = view.composed c.in-Composed.callee c.in-Composed.field-1 in
-    let f = expr_view c.in-Composed.callee in
+    let law = view.composed c.in-Composed.callee c.in-Composed.field-1
+    ∙ ap (λ x. chained.Composed (expr_view x) (expr_view c.in-Composed.field-1.value))
+    (sym c.deref-in-Composed.ensures) in
+    let f = expr_view c.deref-in-Composed.result.now in
     let starts : Expression (value d f) ∷ t0 ≡ before d l t0 = link_seen (λ l. before d l t0) c.in-Composed.is law in
     let sums : d + made_in Outside f ≡ d + made_before l = link_seen (λ l. d + made_before l) c.in-Composed.is law in
     record {
@@ -740,8 +761,10 @@ push_before-returns-in-Decided t c =
     let t0 = trees_of c.args.trees.now in
     let t1 = trees_of c.push_value-in-Decided.new.trees in
     let l = link_view c.args.link.now in
-    let law = view.decided c.in-Decided.field-0 c.in-Decided.field-1 c.in-Decided.left in
-    let f = expr_view c.in-Decided.left in
+    let law = view.decided c.in-Decided.field-0 c.in-Decided.field-1 c.in-Decided.left
+    ∙ ap (λ x. chained.Decided c.in-Decided.field-0 c.in-Decided.field-1 (expr_view x))
+    (sym c.deref-in-Decided.ensures) in
+    let f = expr_view c.deref-in-Decided.result.now in
     let starts : Expression (value d f) ∷ t0 ≡ before d l t0 = link_seen (λ l. before d l t0) c.in-Decided.is law in
     let sums : d + made_in Outside f ≡ d + made_before l = link_seen (λ l. d + made_before l) c.in-Decided.is law in
     record {
@@ -757,7 +780,7 @@ push_after-returns-in-Given t c =
     let m = c.args.made.now in
     let t0 = trees_of c.args.trees.now in
     let law = view.given c.in-Given.field-0 c.in-Given.field-1 in
-    let f = expr_view c.in-Given.field-0 in
+    let f = expr_view c.in-Given.field-0.value in
     let es = map expr_view c.in-Given.field-1.items in
     let whole = link_seen (λ l. l) c.in-Given.is law in
     record {
@@ -775,9 +798,10 @@ pub push_after-returns-in_ok-push_value-in-Composed : goal.push_after-returns-in
 push_after-returns-in_ok-push_value-in-Composed t c =
     let m = c.args.made.now in
     let t0 = trees_of c.args.trees.now in
-    let law = view.composed c.in-Composed.field-0 c.in-Composed.argument in
-    let f = expr_view c.in-Composed.field-0 in
-    let a = expr_view c.in-Composed.argument in
+    let law = view.composed c.in-Composed.field-0 c.in-Composed.argument
+    ∙ ap (λ x. chained.Composed (expr_view c.in-Composed.field-0.value) (expr_view x)) (sym c.deref.ensures) in
+    let f = expr_view c.in-Composed.field-0.value in
+    let a = expr_view c.deref.result.now in
     let whole = link_seen (λ l. l) c.in-Composed.is law in
     let last = trees_of c.push-in-Composed-2.new.self in
     let m2 = c.push_value.new.made in
@@ -828,9 +852,10 @@ pub push_after-returns-in_ok-add_part-in-Before-2 : goal.push_after-returns-in_o
 push_after-returns-in_ok-add_part-in-Before-2 t c =
     let m = c.args.made.now in
     let t0 = trees_of c.args.trees.now in
-    let law = view.part_before c.in-Before.op c.in-Before.part in
+    let law = view.part_before c.in-Before.op c.in-Before.part
+    ∙ ap (λ x. chained.Before (op_view c.in-Before.op) (expr_view x)) (sym c.deref-in-Before.ensures) in
     let op = op_view c.in-Before.op in
-    let a = expr_view c.in-Before.part in
+    let a = expr_view c.deref-in-Before.result.now in
     let whole = link_seen (λ l. l) c.in-Before.is law in
     let last = trees_of c.end_op-in-Before.new.trees in
     let m2 = c.push_value-in-Before.new.made in
@@ -857,7 +882,7 @@ push_after-returns-in-Decided t c =
     let m = c.args.made.now in
     let t0 = trees_of c.args.trees.now in
     let law = view.decided c.in-Decided.field-0 c.in-Decided.connective c.in-Decided.field-2 in
-    let a = expr_view c.in-Decided.field-2 in
+    let a = expr_view c.in-Decided.field-2.value in
     let whole = link_seen (λ l. l) c.in-Decided.is law in
     let last = trees_of c.push-in-Decided.new.self in
     record {
@@ -1283,9 +1308,10 @@ pub finish_turn-returns-in_ok-keep_value-in-Composed : goal.finish_turn-returns-
 finish_turn-returns-in_ok-keep_value-in-Composed t c =
     let m = c.args.made.now in
     let l = link_view c.args.link.now in
-    let a = expr_view c.in-Composed.argument in
+    let a = expr_view c.deref.result.now in
     let after : turn_after l ≡ a ∷ [] =
-    sym (link_seen turn_after c.in-Composed.is (view.composed c.in-Composed.field-0 c.in-Composed.argument)) in
+    sym (link_seen turn_after c.in-Composed.is (view.composed c.in-Composed.field-0 c.in-Composed.argument
+    ∙ ap (λ x. chained.Composed (expr_view c.in-Composed.field-0.value) (expr_view x)) (sym c.deref.ensures))) in
     record {
       emitted =
           on_ok_weaker c.end_turn.result
@@ -1324,8 +1350,9 @@ pub push_group-returns-in_ok-js_name-in-Constant : goal.push_group-returns-in_ok
 push_group-returns-in_ok-js_name-in-Constant t c =
     let d = c.args.made.now in
     let t0 = trees_of c.args.trees.now in
-    let e = expr_view c.in-Constant.value in
-    let whole = ap group_view c.in-Constant.is ∙ view.constant c.in-Constant.title c.in-Constant.value in
+    let e = expr_view c.deref.result.now in
+    let whole = ap group_view c.in-Constant.is ∙ view.constant c.in-Constant.title c.in-Constant.value
+    ∙ ap (λ x. plain.Constant (title_view c.in-Constant.title) (expr_view x)) (sym c.deref.ensures) in
     let x = output.name_view c.in_ok-js_name-in-Constant.field-0 in
     let named : x ≡ js_name c.in-Constant.title.name = c.in_ok-js_name-in-Constant.ensures in
     record {
@@ -1346,8 +1373,10 @@ push_group-returns-in_ok-push-in-Destructure t c =
     let d = c.args.made.now in
     let t0 = trees_of c.args.trees.now in
     let p = pattern_view c.in-Destructure.pattern in
-    let e = expr_view c.in-Destructure.value in
-    let whole = ap group_view c.in-Destructure.is ∙ view.destructure c.in-Destructure.pattern c.in-Destructure.value in
+    let e = expr_view c.deref-in-Destructure.result.now in
+    let whole = ap group_view c.in-Destructure.is ∙ view.destructure c.in-Destructure.pattern c.in-Destructure.value
+    ∙ ap (λ x. plain.Destructure (pattern_view c.in-Destructure.pattern) (expr_view x))
+    (sym c.deref-in-Destructure.ensures) in
     let number = c.in_ok-number-in-Destructure.number in
     let m1 = c.next_made.new.made in
     let t2 = trees_of c.push-in-Destructure.new.self in

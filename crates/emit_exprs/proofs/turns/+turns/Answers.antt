@@ -133,7 +133,8 @@ have_turn-returns-then-has_turn t c =
     let b = c.branch-item.result in
     let rest = have_turn x n (branches_of (map branch_view (drop (i + 1) items))) in
     sym c.if-has_turn.true
-    ∙ either_then rest (c.has_turn.ensures ∙ sym (ap (λ p. has_turn x n p.1) (view.branch b))) c.if-has_turn.true
+    ∙ either_then rest (c.has_turn.ensures ∙ ap (λ e. has_turn x n (expr_view e)) c.deref.ensures
+    ∙ sym (ap (λ p. has_turn x n p.1) (view.branch b))) c.if-has_turn.true
     ∙ sym (ap (λ bs. have_turn x n (branches_of bs)) (drop_next branch_view items i b (omega arith) c.branch-item.is))
     ∙ c.loop-branch.invariant
     ∙ ap (λ bs. have_turn x n (branches_of (map branch_view bs))) c.deref-branch-items.ensures.value
@@ -146,6 +147,7 @@ have_turn-loop-branch-preserved t c =
     let i = c.loop-branch.branch-index in
     let b = c.branch-item.result in
     let rest = have_turn x n (branches_of (map branch_view (drop (i + 1) items))) in
-    either_else rest (c.has_turn.ensures ∙ sym (ap (λ p. has_turn x n p.1) (view.branch b))) c.if-has_turn.false
+    either_else rest (c.has_turn.ensures ∙ ap (λ e. has_turn x n (expr_view e)) c.deref.ensures
+    ∙ sym (ap (λ p. has_turn x n p.1) (view.branch b))) c.if-has_turn.false
     ∙ sym (ap (λ bs. have_turn x n (branches_of bs)) (drop_next branch_view items i b (omega arith) c.branch-item.is))
     ∙ c.loop-branch.invariant

@@ -1,7 +1,8 @@
 use Rattle.std.proofs.Common.{◌∷◌, ◌∙◌, ap, sym}
 use Rattle.std.proofs.lemmas.Result.{on_ok_weaker}
 use Rattle.elm_canon.proofs.Views as view
-use Rattle.elm_canon.specs.View.{expr_view, group_view}
+use Rattle.elm_canon.specs.Tree as plain
+use Rattle.elm_canon.specs.View.{expr_view, group_view, title_view}
 use Rattle.js_tree.specs.Tree.{MoreLine}
 use Rattle.js_tree.specs.Postorder.{Expression, trees_of, apply, name_view}
 use Rattle.js_tree.specs.declared.tree.Node as node
@@ -18,9 +19,10 @@ returns-in-Together c =
 
 pub returns-in_ok-js_name-in-Constant : goal.returns-in_ok-js_name-in-Constant
 returns-in_ok-js_name-in-Constant c =
-    let v = value 0 (expr_view c.in-Constant.value) in
+    let v = value 0 (expr_view c.deref.result.now) in
     let x = c.in_ok-js_name-in-Constant.field-0 in
-    let whole = ap group_view c.in-Constant.is ∙ view.constant c.in-Constant.title c.in-Constant.value in
+    let whole = ap group_view c.in-Constant.is ∙ view.constant c.in-Constant.title c.in-Constant.value
+    ∙ ap (λ e. plain.Constant (title_view c.in-Constant.title) (expr_view e)) (sym c.deref.ensures) in
     on_ok_weaker c.push.result
     (λ is. lines_same
     (λ ls. ap (λ n. MoreLine n v ls) c.in_ok-js_name-in-Constant.ensures ∙ ap (λ g. group_lines g ls) (sym whole))

@@ -69,7 +69,7 @@ use Rattle.std.specs.Prelude.{slice_get, is_some}
 use Rattle.std.specs.List.{AllZip}
 use Rattle.elm_base.specs.declared.position.Pos.{Pos}
 use Rattle.elm_canon.specs.declared.reference.Ref.{Ref}
-use Rattle.elm_canon.specs.View.{annotation_view, function_view}
+use Rattle.elm_canon.specs.View.{annotation_view, function_view, title_view}
 use Rattle.elm_canon.proofs.tree.Group.TheLaws.{the_size}
 use Rattle.type_items.specs.Items.{Place, Item}
 use Rattle.type_items.specs.Scopes.{Scope}
@@ -123,7 +123,7 @@ close_link-returns-in-Given-clause-closed t c = λ others own2 before w inside v
     let left = c.leave_both.ensures (moved (here c.args.state.now) k.outside.place) 1
     (length (map expr_view c.in-Given.field-1.items))
     (back_there (code_of c.args.scope.now) c.args.position
-    (Given (expr_view c.in-Given.field-0) (map expr_view c.in-Given.field-1.items)) own before w inside v k
+    (Given (expr_view c.in-Given.field-0.value) (map expr_view c.in-Given.field-1.items)) own before w inside v k
     (here c.args.state.now) went.follows) in
     record {
       is = same.0;
@@ -131,7 +131,7 @@ close_link-returns-in-Given-clause-closed t c = λ others own2 before w inside v
           (here c.leave_both.new.state)) (sym (ap link_view c.in-Given.is ∙ view.given c.in-Given.field-0
           c.in-Given.field-1))
           (given_closed (code_of c.args.scope.now) c.args.position own before w inside v e (here c.args.state.now) went
-          (expr_view c.in-Given.field-0) (map expr_view c.in-Given.field-1.items) k (here c.leave_both.new.state) left);
+          (expr_view c.in-Given.field-0.value) (map expr_view c.in-Given.field-1.items) k (here c.leave_both.new.state) left);
     })
 
 pub close_link-index-variable-requires : goal.close_link-index-variable-requires
@@ -147,16 +147,16 @@ close_link-index-variable-requires t c =
     r.variable) (ap link_view c.in-Composed.is ∙ view.composed c.in-Composed.field-0 c.in-Composed.argument) r.opens in
     let left = c.leave_both-in-Composed.ensures (moved (here c.args.state.now) k.outside.place) 1 0
     (back_there (code_of c.args.scope.now) c.args.position
-    (Composed (expr_view c.in-Composed.field-0) (expr_view c.in-Composed.argument)) r.own r.before r.wanted r.inside
+    (Composed (expr_view c.in-Composed.field-0.value) (expr_view c.in-Composed.argument.value)) r.own r.before r.wanted r.inside
     r.variable k (here c.args.state.now) r.follows) in
     let can_ = subst (CanWalk (code_of c.args.scope.now)) (sym left)
     (back_can (code_of c.args.scope.now) c.args.position
-    (Composed (expr_view c.in-Composed.field-0) (expr_view c.in-Composed.argument)) r.own r.before r.wanted r.inside
+    (Composed (expr_view c.in-Composed.field-0.value) (expr_view c.in-Composed.argument.value)) r.own r.before r.wanted r.inside
     r.variable k (here c.args.state.now) r.follows) in
     let live_ = subst (λ (s : State). AllByRecursion (Live s.depth s.store) own) (sym left)
     (subst (AllByRecursion (Live (here c.args.state.now).depth (here c.args.state.now).store)) (sym same.1)
     (back_live (code_of c.args.scope.now) c.args.position
-    (Composed (expr_view c.in-Composed.field-0) (expr_view c.in-Composed.argument)) r.own r.before r.wanted r.inside
+    (Composed (expr_view c.in-Composed.field-0.value) (expr_view c.in-Composed.argument.value)) r.own r.before r.wanted r.inside
     r.variable k (here c.args.state.now) r.follows)) in
     let count_ = ap length same.1 ∙ k.count in
     omega (arith, count_)
@@ -171,26 +171,28 @@ close_link-walk_operand-requires t c =
     let r = c.requires.open in
     let same = last_same rest r.others own r.own (sym was ∙ r.is) in
     let k = subst (λ l. IsInside (code_of c.args.scope.now) c.args.position l r.own r.before r.wanted r.inside
-    r.variable) (ap link_view c.in-Composed.is ∙ view.composed c.in-Composed.field-0 c.in-Composed.argument) r.opens in
+    r.variable) (ap link_view c.in-Composed.is ∙ view.composed c.in-Composed.field-0 c.in-Composed.argument
+    ∙ ap (λ x. Composed (expr_view c.in-Composed.field-0.value) (expr_view x)) (sym c.deref.ensures)) r.opens in
     let left = c.leave_both-in-Composed.ensures (moved (here c.args.state.now) k.outside.place) 1 0
     (back_there (code_of c.args.scope.now) c.args.position
-    (Composed (expr_view c.in-Composed.field-0) (expr_view c.in-Composed.argument)) r.own r.before r.wanted r.inside
+    (Composed (expr_view c.in-Composed.field-0.value) (expr_view c.deref.result.now)) r.own r.before r.wanted r.inside
     r.variable k (here c.args.state.now) r.follows) in
     let can_ = subst (CanWalk (code_of c.args.scope.now)) (sym left)
     (back_can (code_of c.args.scope.now) c.args.position
-    (Composed (expr_view c.in-Composed.field-0) (expr_view c.in-Composed.argument)) r.own r.before r.wanted r.inside
+    (Composed (expr_view c.in-Composed.field-0.value) (expr_view c.deref.result.now)) r.own r.before r.wanted r.inside
     r.variable k (here c.args.state.now) r.follows) in
     let live_ = subst (λ (s : State). AllByRecursion (Live s.depth s.store) own) (sym left)
     (subst (AllByRecursion (Live (here c.args.state.now).depth (here c.args.state.now).store)) (sym same.1)
     (back_live (code_of c.args.scope.now) c.args.position
-    (Composed (expr_view c.in-Composed.field-0) (expr_view c.in-Composed.argument)) r.own r.before r.wanted r.inside
+    (Composed (expr_view c.in-Composed.field-0.value) (expr_view c.deref.result.now)) r.own r.before r.wanted r.inside
     r.variable k (here c.args.state.now) r.follows)) in
     let count_ = ap length same.1 ∙ k.count in (
       first_of (omega (arith, c.decreases), search (rules, the_lemmas, c.decreases), search rules),
       (
         can_,
         (
-          (subst FormedLink (ap link_view c.in-Composed.is ∙ view.composed c.in-Composed.field-0 c.in-Composed.argument)
+          (subst FormedLink (ap link_view c.in-Composed.is ∙ view.composed c.in-Composed.field-0 c.in-Composed.argument
+              ∙ ap (λ x. Composed (expr_view c.in-Composed.field-0.value) (expr_view x)) (sym c.deref.ensures))
               c.requires.formed).1,
           live_read c.leave_both-in-Composed.new.state.depth c.leave_both-in-Composed.new.state.store own 2
               c.index-variable.result.now (omega (arith, count_))
@@ -209,20 +211,22 @@ close_link-returns-in-Composed-clause-closed t c =
     (c.in-Some.own ∷ []) in
     let same = last_same rest others own own2 (sym was ∙ is) in
     let k = subst (λ l. IsInside (code_of c.args.scope.now) c.args.position l own before w inside v)
-    (ap link_view c.in-Composed.is ∙ view.composed c.in-Composed.field-0 c.in-Composed.argument)
+    (ap link_view c.in-Composed.is ∙ view.composed c.in-Composed.field-0 c.in-Composed.argument
+    ∙ ap (λ x. Composed (expr_view c.in-Composed.field-0.value) (expr_view x)) (sym c.deref.ensures))
     (subst (λ o. IsInside (code_of c.args.scope.now) c.args.position (link_view c.args.link.now) o before w inside v)
     (sym same.1) i) in
     let left = c.leave_both-in-Composed.ensures (moved (here c.args.state.now) k.outside.place) 1 0
     (back_there (code_of c.args.scope.now) c.args.position
-    (Composed (expr_view c.in-Composed.field-0) (expr_view c.in-Composed.argument)) own before w inside v k
+    (Composed (expr_view c.in-Composed.field-0.value) (expr_view c.deref.result.now)) own before w inside v k
     (here c.args.state.now) went.follows) in
     record {
       is = same.0;
       went = subst (λ l. Went Wanted (code_of c.args.scope.now) (one w) below (listed (done l e) c.args.position) before
           (here c.walk_operand.new.state)) (sym
-          (ap link_view c.in-Composed.is ∙ view.composed c.in-Composed.field-0 c.in-Composed.argument))
+          (ap link_view c.in-Composed.is ∙ view.composed c.in-Composed.field-0 c.in-Composed.argument
+          ∙ ap (λ x. Composed (expr_view c.in-Composed.field-0.value) (expr_view x)) (sym c.deref.ensures)))
           (composed_closed (code_of c.args.scope.now) c.args.position own before w inside v e (here c.args.state.now)
-          went (expr_view c.in-Composed.field-0) (expr_view c.in-Composed.argument) k
+          went (expr_view c.in-Composed.field-0.value) (expr_view c.deref.result.now) k
           (here c.leave_both-in-Composed.new.state) left c.index-variable.result.now (here c.walk_operand.new.state)
           (read_at own 2 c.index-variable.result.now (let m = k.count in omega (arith, m)) c.index-variable.ensures)
           h);
@@ -238,18 +242,20 @@ close_link-returns-in-Composed-clause-stopped t c = λ b x others own2 before w 
     (c.in-Some.own ∷ []) in
     let same = last_same rest others own own2 (sym was ∙ is) in
     let k = subst (λ l. IsInside (code_of c.args.scope.now) c.args.position l own before w inside v)
-    (ap link_view c.in-Composed.is ∙ view.composed c.in-Composed.field-0 c.in-Composed.argument)
+    (ap link_view c.in-Composed.is ∙ view.composed c.in-Composed.field-0 c.in-Composed.argument
+    ∙ ap (λ x. Composed (expr_view c.in-Composed.field-0.value) (expr_view x)) (sym c.deref.ensures))
     (subst (λ o. IsInside (code_of c.args.scope.now) c.args.position (link_view c.args.link.now) o before w inside v)
     (sym same.1) i) in
     let left = c.leave_both-in-Composed.ensures (moved (here c.args.state.now) k.outside.place) 1 0
     (back_there (code_of c.args.scope.now) c.args.position
-    (Composed (expr_view c.in-Composed.field-0) (expr_view c.in-Composed.argument)) own before w inside v k
+    (Composed (expr_view c.in-Composed.field-0.value) (expr_view c.deref.result.now)) own before w inside v k
     (here c.args.state.now) went.follows) in
     subst (λ l. Stuck Wanted (code_of c.args.scope.now) (one w) below (listed (done l e) c.args.position) before
     (here c.walk_operand.new.state) (bad_view b))
-    (sym (ap link_view c.in-Composed.is ∙ view.composed c.in-Composed.field-0 c.in-Composed.argument))
+    (sym (ap link_view c.in-Composed.is ∙ view.composed c.in-Composed.field-0 c.in-Composed.argument
+    ∙ ap (λ x. Composed (expr_view c.in-Composed.field-0.value) (expr_view x)) (sym c.deref.ensures)))
     (composed_stopped (code_of c.args.scope.now) c.args.position own before w inside v e (here c.args.state.now) went
-    (expr_view c.in-Composed.field-0) (expr_view c.in-Composed.argument) k (here c.leave_both-in-Composed.new.state)
+    (expr_view c.in-Composed.field-0.value) (expr_view c.deref.result.now) k (here c.leave_both-in-Composed.new.state)
     left c.index-variable.result.now (here c.walk_operand.new.state) (bad_view b)
     (read_at own 2 c.index-variable.result.now (let m = k.count in omega (arith, m)) c.index-variable.ensures)
     (c.walk_operand.ensures.stopped b x)))
@@ -392,10 +398,10 @@ close_link-go_on-requires-in-Before-clause-whole t c =
     r.variable) (ap link_view c.in-Before.is ∙ view.part_before c.in-Before.op c.in-Before.part) r.opens in
     let left = c.leave_both-in-Before.ensures (moved (here c.args.state.now) k.outside.place) 0 0
     (back_there (code_of c.args.scope.now) c.args.position
-    (Before (op_view c.in-Before.op) (expr_view c.in-Before.part)) r.own r.before r.wanted r.inside r.variable k
+    (Before (op_view c.in-Before.op) (expr_view c.in-Before.part.value)) r.own r.before r.wanted r.inside r.variable k
     (here c.args.state.now) r.follows) in
     let can_ = subst (CanWalk (code_of c.args.scope.now)) (sym left)
-    (back_can (code_of c.args.scope.now) c.args.position (Before (op_view c.in-Before.op) (expr_view c.in-Before.part))
+    (back_can (code_of c.args.scope.now) c.args.position (Before (op_view c.in-Before.op) (expr_view c.in-Before.part.value))
     r.own r.before r.wanted r.inside r.variable k (here c.args.state.now) r.follows) in
     can_.ready.whole
 
@@ -417,14 +423,14 @@ close_link-go_on-requires-in-Before-clause-some t c =
     r.variable) (ap link_view c.in-Before.is ∙ view.part_before c.in-Before.op c.in-Before.part) r.opens in
     let left = c.leave_both-in-Before.ensures (moved (here c.args.state.now) k.outside.place) 0 0
     (back_there (code_of c.args.scope.now) c.args.position
-    (Before (op_view c.in-Before.op) (expr_view c.in-Before.part)) r.own r.before r.wanted r.inside r.variable k
+    (Before (op_view c.in-Before.op) (expr_view c.in-Before.part.value)) r.own r.before r.wanted r.inside r.variable k
     (here c.args.state.now) r.follows) in
     let can_ = subst (CanWalk (code_of c.args.scope.now)) (sym left)
-    (back_can (code_of c.args.scope.now) c.args.position (Before (op_view c.in-Before.op) (expr_view c.in-Before.part))
+    (back_can (code_of c.args.scope.now) c.args.position (Before (op_view c.in-Before.op) (expr_view c.in-Before.part.value))
     r.own r.before r.wanted r.inside r.variable k (here c.args.state.now) r.follows) in
     let live_ = subst (λ (s : State). AllByRecursion (Live s.depth s.store) own) (sym left)
     (subst (AllByRecursion (Live (here c.args.state.now).depth (here c.args.state.now).store)) (sym same.1)
-    (back_live (code_of c.args.scope.now) c.args.position (Before (op_view c.in-Before.op) (expr_view c.in-Before.part))
+    (back_live (code_of c.args.scope.now) c.args.position (Before (op_view c.in-Before.op) (expr_view c.in-Before.part.value))
     r.own r.before r.wanted r.inside r.variable k (here c.args.state.now) r.follows)) in
     let count_ = ap length same.1 ∙ k.count in
     let m = known_enough (op_view c.in-Before.op) 1 0 k.strict.1 (omega arith) in omega (arith, m, count_)
@@ -442,11 +448,11 @@ close_link-go_on-requires-in-Before-clause-live t c =
     r.variable) (ap link_view c.in-Before.is ∙ view.part_before c.in-Before.op c.in-Before.part) r.opens in
     let left = c.leave_both-in-Before.ensures (moved (here c.args.state.now) k.outside.place) 0 0
     (back_there (code_of c.args.scope.now) c.args.position
-    (Before (op_view c.in-Before.op) (expr_view c.in-Before.part)) r.own r.before r.wanted r.inside r.variable k
+    (Before (op_view c.in-Before.op) (expr_view c.in-Before.part.value)) r.own r.before r.wanted r.inside r.variable k
     (here c.args.state.now) r.follows) in
     let live_ = subst (λ (s : State). AllByRecursion (Live s.depth s.store) own) (sym left)
     (subst (AllByRecursion (Live (here c.args.state.now).depth (here c.args.state.now).store)) (sym same.1)
-    (back_live (code_of c.args.scope.now) c.args.position (Before (op_view c.in-Before.op) (expr_view c.in-Before.part))
+    (back_live (code_of c.args.scope.now) c.args.position (Before (op_view c.in-Before.op) (expr_view c.in-Before.part.value))
     r.own r.before r.wanted r.inside r.variable k (here c.args.state.now) r.follows)) in
     live_
 
@@ -466,13 +472,13 @@ close_link-returns-in_err-go_on-in-Before-clause-stopped t c = λ b x others own
     (sym same.1) i) in
     let left = c.leave_both-in-Before.ensures (moved (here c.args.state.now) k.outside.place) 0 0
     (back_there (code_of c.args.scope.now) c.args.position
-    (Before (op_view c.in-Before.op) (expr_view c.in-Before.part)) own before w inside v k (here c.args.state.now)
+    (Before (op_view c.in-Before.op) (expr_view c.in-Before.part.value)) own before w inside v k (here c.args.state.now)
     went.follows) in
     subst (λ l. Stuck Wanted (code_of c.args.scope.now) (one w) below (listed (done l e) c.args.position) before
     (here c.go_on-in-Before.new.state) (bad_view b))
     (sym (ap link_view c.in-Before.is ∙ view.part_before c.in-Before.op c.in-Before.part))
     (before_go_stopped (code_of c.args.scope.now) c.args.position own before w inside v e (here c.args.state.now) went
-    (op_view c.in-Before.op) (expr_view c.in-Before.part) k (here c.leave_both-in-Before.new.state) left
+    (op_view c.in-Before.op) (expr_view c.in-Before.part.value) k (here c.leave_both-in-Before.new.state) left
     (here c.go_on-in-Before.new.state) (bad_view b)
     (c.in_err-go_on-in-Before.ensures.stops b (rw (p.1, p.2) at x) (code_of c.args.scope.now))))
 
@@ -489,14 +495,14 @@ close_link-index-variable-requires-in-Before t c =
     r.variable) (ap link_view c.in-Before.is ∙ view.part_before c.in-Before.op c.in-Before.part) r.opens in
     let left = c.leave_both-in-Before.ensures (moved (here c.args.state.now) k.outside.place) 0 0
     (back_there (code_of c.args.scope.now) c.args.position
-    (Before (op_view c.in-Before.op) (expr_view c.in-Before.part)) r.own r.before r.wanted r.inside r.variable k
+    (Before (op_view c.in-Before.op) (expr_view c.in-Before.part.value)) r.own r.before r.wanted r.inside r.variable k
     (here c.args.state.now) r.follows) in
     let can_ = subst (CanWalk (code_of c.args.scope.now)) (sym left)
-    (back_can (code_of c.args.scope.now) c.args.position (Before (op_view c.in-Before.op) (expr_view c.in-Before.part))
+    (back_can (code_of c.args.scope.now) c.args.position (Before (op_view c.in-Before.op) (expr_view c.in-Before.part.value))
     r.own r.before r.wanted r.inside r.variable k (here c.args.state.now) r.follows) in
     let live_ = subst (λ (s : State). AllByRecursion (Live s.depth s.store) own) (sym left)
     (subst (AllByRecursion (Live (here c.args.state.now).depth (here c.args.state.now).store)) (sym same.1)
-    (back_live (code_of c.args.scope.now) c.args.position (Before (op_view c.in-Before.op) (expr_view c.in-Before.part))
+    (back_live (code_of c.args.scope.now) c.args.position (Before (op_view c.in-Before.op) (expr_view c.in-Before.part.value))
     r.own r.before r.wanted r.inside r.variable k (here c.args.state.now) r.follows)) in
     let count_ = ap length same.1 ∙ k.count in
     let two_ = c.in_ok-go_on-in-Before.ensures.number ∙ next_count (op_view c.in-Before.op) 1 0 (length own) k.strict.1
@@ -513,17 +519,18 @@ close_link-walk_operand-requires-in-Before t c =
     let r = c.requires.open in
     let same = last_same rest r.others own r.own (sym was ∙ r.is) in
     let k = subst (λ l. IsInside (code_of c.args.scope.now) c.args.position l r.own r.before r.wanted r.inside
-    r.variable) (ap link_view c.in-Before.is ∙ view.part_before c.in-Before.op c.in-Before.part) r.opens in
+    r.variable) (ap link_view c.in-Before.is ∙ view.part_before c.in-Before.op c.in-Before.part
+    ∙ ap (λ x. Before (op_view c.in-Before.op) (expr_view x)) (sym c.deref-in-Before.ensures)) r.opens in
     let left = c.leave_both-in-Before.ensures (moved (here c.args.state.now) k.outside.place) 0 0
     (back_there (code_of c.args.scope.now) c.args.position
-    (Before (op_view c.in-Before.op) (expr_view c.in-Before.part)) r.own r.before r.wanted r.inside r.variable k
+    (Before (op_view c.in-Before.op) (expr_view c.deref-in-Before.result.now)) r.own r.before r.wanted r.inside r.variable k
     (here c.args.state.now) r.follows) in
     let can_ = subst (CanWalk (code_of c.args.scope.now)) (sym left)
-    (back_can (code_of c.args.scope.now) c.args.position (Before (op_view c.in-Before.op) (expr_view c.in-Before.part))
+    (back_can (code_of c.args.scope.now) c.args.position (Before (op_view c.in-Before.op) (expr_view c.deref-in-Before.result.now))
     r.own r.before r.wanted r.inside r.variable k (here c.args.state.now) r.follows) in
     let live_ = subst (λ (s : State). AllByRecursion (Live s.depth s.store) own) (sym left)
     (subst (AllByRecursion (Live (here c.args.state.now).depth (here c.args.state.now).store)) (sym same.1)
-    (back_live (code_of c.args.scope.now) c.args.position (Before (op_view c.in-Before.op) (expr_view c.in-Before.part))
+    (back_live (code_of c.args.scope.now) c.args.position (Before (op_view c.in-Before.op) (expr_view c.deref-in-Before.result.now))
     r.own r.before r.wanted r.inside r.variable k (here c.args.state.now) r.follows)) in
     let count_ = ap length same.1 ∙ k.count in
     let two_ = c.in_ok-go_on-in-Before.ensures.number ∙ next_count (op_view c.in-Before.op) 1 0 (length own) k.strict.1
@@ -534,7 +541,8 @@ close_link-walk_operand-requires-in-Before t c =
             can_
             c.in_ok-go_on-in-Before.ensures.follows,
         (
-          (subst FormedLink (ap link_view c.in-Before.is ∙ view.part_before c.in-Before.op c.in-Before.part)
+          (subst FormedLink (ap link_view c.in-Before.is ∙ view.part_before c.in-Before.op c.in-Before.part
+              ∙ ap (λ x. Before (op_view c.in-Before.op) (expr_view x)) (sym c.deref-in-Before.ensures))
               c.requires.formed).1,
           live_read c.go_on-in-Before.new.state.depth c.go_on-in-Before.new.state.store
               c.go_on-in-Before.new.variables.items
@@ -554,12 +562,13 @@ close_link-returns-in-Before-clause-closed t c =
     (c.in-Some.own ∷ []) in
     let same = last_same rest others own own2 (sym was ∙ is) in
     let k = subst (λ l. IsInside (code_of c.args.scope.now) c.args.position l own before w inside v)
-    (ap link_view c.in-Before.is ∙ view.part_before c.in-Before.op c.in-Before.part)
+    (ap link_view c.in-Before.is ∙ view.part_before c.in-Before.op c.in-Before.part
+    ∙ ap (λ x. Before (op_view c.in-Before.op) (expr_view x)) (sym c.deref-in-Before.ensures))
     (subst (λ o. IsInside (code_of c.args.scope.now) c.args.position (link_view c.args.link.now) o before w inside v)
     (sym same.1) i) in
     let left = c.leave_both-in-Before.ensures (moved (here c.args.state.now) k.outside.place) 0 0
     (back_there (code_of c.args.scope.now) c.args.position
-    (Before (op_view c.in-Before.op) (expr_view c.in-Before.part)) own before w inside v k (here c.args.state.now)
+    (Before (op_view c.in-Before.op) (expr_view c.deref-in-Before.result.now)) own before w inside v k (here c.args.state.now)
     went.follows) in
     let two_ = c.in_ok-go_on-in-Before.ensures.number ∙ next_count (op_view c.in-Before.op) 1 0 (length own) k.strict.1
     k.count in
@@ -567,9 +576,10 @@ close_link-returns-in-Before-clause-closed t c =
       is = same.0;
       went = subst (λ l. Went Wanted (code_of c.args.scope.now) (one w) below (listed (done l e) c.args.position) before
           (here c.walk_operand-in-Before.new.state))
-          (sym (ap link_view c.in-Before.is ∙ view.part_before c.in-Before.op c.in-Before.part))
+          (sym (ap link_view c.in-Before.is ∙ view.part_before c.in-Before.op c.in-Before.part
+          ∙ ap (λ x. Before (op_view c.in-Before.op) (expr_view x)) (sym c.deref-in-Before.ensures)))
           (before_closed (code_of c.args.scope.now) c.args.position own before w inside v e (here c.args.state.now) went
-          (op_view c.in-Before.op) (expr_view c.in-Before.part) k (here c.leave_both-in-Before.new.state) left
+          (op_view c.in-Before.op) (expr_view c.deref-in-Before.result.now) k (here c.leave_both-in-Before.new.state) left
           c.go_on-in-Before.new.variables.items c.index-variable-in-Before.result.now (here c.go_on-in-Before.new.state)
           (here c.walk_operand-in-Before.new.state) (c.in_ok-go_on-in-Before.ensures.goes (code_of c.args.scope.now))
           two_ (read_at c.go_on-in-Before.new.variables.items 1 c.index-variable-in-Before.result.now
@@ -586,20 +596,22 @@ close_link-returns-in-Before-clause-stopped t c = λ b x others own2 before w in
     (c.in-Some.own ∷ []) in
     let same = last_same rest others own own2 (sym was ∙ is) in
     let k = subst (λ l. IsInside (code_of c.args.scope.now) c.args.position l own before w inside v)
-    (ap link_view c.in-Before.is ∙ view.part_before c.in-Before.op c.in-Before.part)
+    (ap link_view c.in-Before.is ∙ view.part_before c.in-Before.op c.in-Before.part
+    ∙ ap (λ x. Before (op_view c.in-Before.op) (expr_view x)) (sym c.deref-in-Before.ensures))
     (subst (λ o. IsInside (code_of c.args.scope.now) c.args.position (link_view c.args.link.now) o before w inside v)
     (sym same.1) i) in
     let left = c.leave_both-in-Before.ensures (moved (here c.args.state.now) k.outside.place) 0 0
     (back_there (code_of c.args.scope.now) c.args.position
-    (Before (op_view c.in-Before.op) (expr_view c.in-Before.part)) own before w inside v k (here c.args.state.now)
+    (Before (op_view c.in-Before.op) (expr_view c.deref-in-Before.result.now)) own before w inside v k (here c.args.state.now)
     went.follows) in
     let two_ = c.in_ok-go_on-in-Before.ensures.number ∙ next_count (op_view c.in-Before.op) 1 0 (length own) k.strict.1
     k.count in
     subst (λ l. Stuck Wanted (code_of c.args.scope.now) (one w) below (listed (done l e) c.args.position) before
     (here c.walk_operand-in-Before.new.state) (bad_view b))
-    (sym (ap link_view c.in-Before.is ∙ view.part_before c.in-Before.op c.in-Before.part))
+    (sym (ap link_view c.in-Before.is ∙ view.part_before c.in-Before.op c.in-Before.part
+    ∙ ap (λ x. Before (op_view c.in-Before.op) (expr_view x)) (sym c.deref-in-Before.ensures)))
     (before_stopped (code_of c.args.scope.now) c.args.position own before w inside v e (here c.args.state.now) went
-    (op_view c.in-Before.op) (expr_view c.in-Before.part) k (here c.leave_both-in-Before.new.state) left
+    (op_view c.in-Before.op) (expr_view c.deref-in-Before.result.now) k (here c.leave_both-in-Before.new.state) left
     c.go_on-in-Before.new.variables.items c.index-variable-in-Before.result.now (here c.go_on-in-Before.new.state)
     (here c.walk_operand-in-Before.new.state) (bad_view b)
     (c.in_ok-go_on-in-Before.ensures.goes (code_of c.args.scope.now)) two_
@@ -620,7 +632,7 @@ close_link-returns-clause-closed t c = λ others own2 before w inside v e is i w
     (sym same.1) i) in
     let left = c.leave_one.ensures (moved (here c.args.state.now) k.outside.place) 1
     (back_there (code_of c.args.scope.now) c.args.position
-    (Decided c.in-Decided.field-0 c.in-Decided.field-1 (expr_view c.in-Decided.field-2)) own before w inside v k
+    (Decided c.in-Decided.field-0 c.in-Decided.field-1 (expr_view c.in-Decided.field-2.value)) own before w inside v k
     (here c.args.state.now) went.follows) in
     record {
       is = same.0;
@@ -628,22 +640,23 @@ close_link-returns-clause-closed t c = λ others own2 before w inside v e is i w
           (here c.leave_one.new.state)) (sym (ap link_view c.in-Decided.is ∙ view.decided c.in-Decided.field-0
           c.in-Decided.field-1 c.in-Decided.field-2))
           (decided_closed (code_of c.args.scope.now) c.args.position own before w inside v e (here c.args.state.now)
-          went c.in-Decided.field-0 c.in-Decided.field-1 (expr_view c.in-Decided.field-2) k (here c.leave_one.new.state)
+          went c.in-Decided.field-0 c.in-Decided.field-1 (expr_view c.in-Decided.field-2.value) k (here c.leave_one.new.state)
           left);
     })
 
 pub open_link-walk_arguments-requires : goal.open_link-walk_arguments-requires
 open_link-walk_arguments-requires t c =
-    let f = (subst FormedLink (ap link_view c.in-Given.is ∙ view.given c.in-Given.callee c.in-Given.arguments)
+    let f = (subst FormedLink (ap link_view c.in-Given.is ∙ view.given c.in-Given.callee c.in-Given.arguments
+    ∙ ap (λ x. Given (expr_view x) (map expr_view c.in-Given.arguments.items)) (sym c.deref.ensures))
     c.requires.formed) in
-    let d = ap length c.deref.ensures.value in (
+    let d = ap length c.deref-in-Given.ensures.value in (
       first_of (omega (arith, c.decreases), search (rules, the_lemmas, c.decreases), search rules),
       (
         can_then (code_of c.args.scope.now) (code_of c.walk_callee.new.scope) (here c.args.state.now)
             (here c.walk_callee.new.state) c.in_ok-variables-in-Given.ensures.scope c.requires.can
             c.in_ok-variables-in-Given.ensures.follows,
         (
-          subst (λ xs. AllFormed (exprs_of (map expr_view xs))) (sym c.deref.ensures.value) f.1,
+          subst (λ xs. AllFormed (exprs_of (map expr_view xs))) (sym c.deref-in-Given.ensures.value) f.1,
           (
             omega (arith, d, c.len-count.ensures, c.in_ok-variables-in-Given.ensures.number),
             subst (AllByRecursion (Live c.walk_callee.new.state.depth c.walk_callee.new.state.store)) refl
@@ -659,7 +672,8 @@ open_link-returns-in_err-variables-in-Given-clause-stopped t c = λ b e y. (
     let p = err_from_is_err_and c.from_residual.result c.from_residual.ensures.1 in
     shown_stuck (code_of c.args.scope.now) c.args.wanted c.args.position (here c.args.state.now)
     (here c.walk_callee.new.state) (bad_view b) _ _
-    (ap (λ l. done l y) (ap link_view c.in-Given.is ∙ view.given c.in-Given.callee c.in-Given.arguments))
+    (ap (λ l. done l y) (ap link_view c.in-Given.is ∙ view.given c.in-Given.callee c.in-Given.arguments
+    ∙ ap (λ x. Given (expr_view x) (map expr_view c.in-Given.arguments.items)) (sym c.deref.ensures)))
     (c.in_err-variables-in-Given.ensures.stopped b (other_error _ _ (rw (p.1, p.2) at e))
     ((map expr_view c.in-Given.arguments.items) ++ y ∷ [])
     (let m = (let m = length-map c.in-Given.arguments.items expr_view in let z : length
@@ -672,7 +686,8 @@ open_link-walk_callee-requires t c = (
   (
     c.requires.can,
     (
-      (subst FormedLink (ap link_view c.in-Given.is ∙ view.given c.in-Given.callee c.in-Given.arguments)
+      (subst FormedLink (ap link_view c.in-Given.is ∙ view.given c.in-Given.callee c.in-Given.arguments
+          ∙ ap (λ x. Given (expr_view x) (map expr_view c.in-Given.arguments.items)) (sym c.deref.ensures))
           c.requires.formed).0,
       c.requires.wanted,
     ),
@@ -683,34 +698,35 @@ pub open_link-returns-in_ok-inner-in-Given-clause-opened : goal.open_link-return
 open_link-returns-in_ok-inner-in-Given-clause-opened t c =
     let outside_ = here c.walk_arguments.new.state in
     let own = c.in_ok-variables-in-Given.variables.items in
-    let went = subst (λ k. ArgumentsWent k c.args.position (map expr_view c.deref.result.now)
+    let went = subst (λ k. ArgumentsWent k c.args.position (map expr_view c.deref-in-Given.result.now)
     c.in_ok-variables-in-Given.variables.items (here c.walk_callee.new.state) outside_)
     c.in_ok-variables-in-Given.ensures.scope c.in_ok-walk_arguments-in-Given.ensures.opened in
-    let o = went (expr_view c.in-Given.callee) c.args.wanted (c.len-count.result + 1) (here c.args.state.now)
+    let o = went (expr_view c.deref.result.now) c.args.wanted (c.len-count.result + 1) (here c.args.state.now)
     c.requires.can (subst (λ vs. length vs ≡ suc (c.len-count.result + 1)) refl
     c.in_ok-variables-in-Given.ensures.number)
-    (subst (λ vs. CallOpens (code_of c.args.scope.now) c.args.wanted (expr_view c.in-Given.callee)
+    (subst (λ vs. CallOpens (code_of c.args.scope.now) c.args.wanted (expr_view c.deref.result.now)
     (c.len-count.result + 1) c.args.position [] vs (here c.args.state.now) (here c.walk_callee.new.state)) refl
     c.in_ok-variables-in-Given.ensures.opened) in
-    let o2 = subst (λ vs. CallOpens (code_of c.args.scope.now) c.args.wanted (expr_view c.in-Given.callee)
-    (c.len-count.result + 1) c.args.position (map expr_view c.deref.result.now) vs (here c.args.state.now) outside_)
+    let o2 = subst (λ vs. CallOpens (code_of c.args.scope.now) c.args.wanted (expr_view c.deref.result.now)
+    (c.len-count.result + 1) c.args.position (map expr_view c.deref-in-Given.result.now) vs (here c.args.state.now) outside_)
     refl o in
-    let o3 = subst (λ xs. CallOpens (code_of c.args.scope.now) c.args.wanted (expr_view c.in-Given.callee)
+    let o3 = subst (λ xs. CallOpens (code_of c.args.scope.now) c.args.wanted (expr_view c.deref.result.now)
     (c.len-count.result + 1) c.args.position (map expr_view xs) own (here c.args.state.now) outside_)
-    c.deref.ensures.value o2 in
+    c.deref-in-Given.ensures.value o2 in
     record {
       own = own;
       is = c.in_ok-inner-in-Given.ensures.kept;
       inside_is =
           subst (λ l. IsInside (code_of c.args.scope.now) c.args.position l own (here c.args.state.now) c.args.wanted
           (here c.go_inside.new.state) c.in_ok-inner-in-Given.inner)
-          (sym (ap link_view c.in-Given.is ∙ view.given c.in-Given.callee c.in-Given.arguments))
+          (sym (ap link_view c.in-Given.is ∙ view.given c.in-Given.callee c.in-Given.arguments
+          ∙ ap (λ x. Given (expr_view x) (map expr_view c.in-Given.arguments.items)) (sym c.deref.ensures)))
           (given_inside (code_of c.args.scope.now) c.args.position own (here c.args.state.now) c.args.wanted
           (here c.go_inside.new.state) c.in_ok-inner-in-Given.inner outside_ c.requires.can
           (follows_on (here c.args.state.now) (here c.walk_callee.new.state) outside_
           c.in_ok-variables-in-Given.ensures.follows c.in_ok-walk_arguments-in-Given.ensures.follows)
           (all_still_live (here c.walk_callee.new.state) outside_ own c.in_ok-walk_arguments-in-Given.ensures.follows
-          c.in_ok-variables-in-Given.ensures.live) (expr_view c.in-Given.callee)
+          c.in_ok-variables-in-Given.ensures.live) (expr_view c.deref.result.now)
           (map expr_view c.in-Given.arguments.items)
           c.len-count.result (let m = length-map c.in-Given.arguments.items expr_view in let z : length
           (map expr_view c.in-Given.arguments.items) ≡ c.len-count.result = omega (arith, m, c.len-count.ensures) in z)
@@ -1052,12 +1068,12 @@ walk_branch-returns-in_err-bound-clause-stopped t c b e =
     (operand_place 1 c.args.number) (branch_at x.0 x.1 c.args.position c.args.number) (here c.args.state.now)
     (here c.infer_pattern.new.state) (bad_view b)) (sym (branch_is c.args.branch.now))
     (branch_stuck_out (code_of c.args.scope.now) c.args.position (pattern_view c.args.branch.now.pattern)
-    (expr_view c.args.branch.now.body) c.args.subject c.args.wanted c.args.number (here c.args.state.now)
+    (expr_view c.args.branch.now.body.value) c.args.subject c.args.wanted c.args.number (here c.args.state.now)
     (here c.enter_both.new.state) (here c.infer_pattern.new.state) c.in_ok-enter_both.ensures (bad_view b)
     (branch_refused (code_of c.args.scope.now) c.args.position (pattern_view c.args.branch.now.pattern)
-    (expr_view c.args.branch.now.body) c.args.subject c.args.wanted (here c.enter_both.new.state)
+    (expr_view c.args.branch.now.body.value) c.args.subject c.args.wanted (here c.enter_both.new.state)
     (entered_can (code_of c.args.scope.now) c.args.position (pattern_view c.args.branch.now.pattern)
-    (expr_view c.args.branch.now.body) c.args.subject c.args.wanted c.args.number (here c.args.state.now)
+    (expr_view c.args.branch.now.body.value) c.args.subject c.args.wanted c.args.number (here c.args.state.now)
     (here c.enter_both.new.state) (here c.infer_pattern.new.state) c.in_ok-enter_both.ensures c.requires.can).ready
     (here c.infer_pattern.new.state) (bad_view b) refused))
 
@@ -1069,7 +1085,7 @@ walk_branch-walk_part-requires t c =
     c.known.ensures c.in_ok-bound.ensures.matches in
     let can = can_on (code_of c.args.scope.now) (here c.enter_both.new.state) (here c.infer_pattern.new.state)
     (entered_can (code_of c.args.scope.now) c.args.position (pattern_view c.args.branch.now.pattern)
-    (expr_view c.args.branch.now.body) c.args.subject c.args.wanted c.args.number (here c.args.state.now)
+    (expr_view c.deref.result.now) c.args.subject c.args.wanted c.args.number (here c.args.state.now)
     (here c.enter_both.new.state) (here c.infer_pattern.new.state) c.in_ok-enter_both.ensures c.requires.can)
     matched.follows in (
       first_of (omega (arith, c.decreases), search (rules, the_lemmas, c.decreases), search rules),
@@ -1079,10 +1095,11 @@ walk_branch-walk_part-requires t c =
             (map bound_view c.in_ok-bound.bound.items)
             matched.live can),
         (
-          subst Formed (ap (λ (x : tree.Pattern × tree.Expr). x.1) (branch_is c.args.branch.now)) c.requires.body,
+          subst Formed (ap (λ (x : tree.Pattern × tree.Expr). x.1) (branch_is c.args.branch.now
+              ∙ ap (λ x. (pattern_view c.args.branch.now.pattern, expr_view x)) (sym c.deref.ensures))) c.requires.body,
           still_live _ _ c.args.wanted matched.follows
               (entered_live (code_of c.args.scope.now) c.args.position (pattern_view c.args.branch.now.pattern)
-              (expr_view c.args.branch.now.body) c.args.subject c.args.wanted c.args.number (here c.args.state.now)
+              (expr_view c.deref.result.now) c.args.subject c.args.wanted c.args.number (here c.args.state.now)
               (here c.enter_both.new.state) (here c.infer_pattern.new.state) c.in_ok-enter_both.ensures c.args.wanted
               c.requires.wanted),
         ),
@@ -1097,22 +1114,23 @@ walk_branch-returns-clause-walked t c =
     c.known.ensures c.in_ok-bound.ensures.matches in
     let went =
     branch_went (code_of c.args.scope.now) c.args.position (pattern_view c.args.branch.now.pattern)
-    (expr_view c.args.branch.now.body) c.args.subject c.args.wanted (here c.enter_both.new.state)
+    (expr_view c.deref.result.now) c.args.subject c.args.wanted (here c.enter_both.new.state)
     (entered_can (code_of c.args.scope.now) c.args.position (pattern_view c.args.branch.now.pattern)
-    (expr_view c.args.branch.now.body) c.args.subject c.args.wanted c.args.number (here c.args.state.now)
+    (expr_view c.deref.result.now) c.args.subject c.args.wanted c.args.number (here c.args.state.now)
     (here c.enter_both.new.state) (here c.infer_pattern.new.state) c.in_ok-enter_both.ensures c.requires.can).ready
     (map bound_view c.in_ok-bound.bound.items) (here c.infer_pattern.new.state) (here c.walk_part.new.state) matched
     (went_at c.in_ok-entered.ensures.scope c.in_ok-walk_part.ensures.walked) in
     subst (λ (x : tree.Pattern × tree.Expr). Went (Wanted × Wanted) (code_of c.args.scope.now)
     (two c.args.subject c.args.wanted)
     (operand_place 1 c.args.number) (branch_at x.0 x.1 c.args.position c.args.number) (here c.args.state.now)
-    (here c.leave_both.new.state)) (sym (branch_is c.args.branch.now))
+    (here c.leave_both.new.state)) (sym (branch_is c.args.branch.now
+    ∙ ap (λ x. (pattern_view c.args.branch.now.pattern, expr_view x)) (sym c.deref.ensures)))
     (branch_out (code_of c.args.scope.now) c.args.position (pattern_view c.args.branch.now.pattern)
-    (expr_view c.args.branch.now.body) c.args.subject c.args.wanted c.args.number (here c.args.state.now)
+    (expr_view c.deref.result.now) c.args.subject c.args.wanted c.args.number (here c.args.state.now)
     (here c.enter_both.new.state) (here c.walk_part.new.state) c.in_ok-enter_both.ensures (here c.leave_both.new.state)
     (c.leave_both.ensures (moved (here c.walk_part.new.state) c.args.state.now.place.items) 1 c.args.number
     (branch_there (code_of c.args.scope.now) c.args.position (pattern_view c.args.branch.now.pattern)
-    (expr_view c.args.branch.now.body) c.args.subject c.args.wanted c.args.number (here c.args.state.now)
+    (expr_view c.deref.result.now) c.args.subject c.args.wanted c.args.number (here c.args.state.now)
     (here c.enter_both.new.state) (here c.walk_part.new.state) c.in_ok-enter_both.ensures went.follows))
     went)
 
@@ -1701,14 +1719,15 @@ walk_branch-returns-in_err-walk_part-clause-stopped t c b e =
     subst (λ (x : tree.Pattern × tree.Expr). Stuck (Wanted × Wanted) (code_of c.args.scope.now)
     (two c.args.subject c.args.wanted)
     (operand_place 1 c.args.number) (branch_at x.0 x.1 c.args.position c.args.number) (here c.args.state.now)
-    (here c.walk_part.new.state) (bad_view b)) (sym (branch_is c.args.branch.now))
+    (here c.walk_part.new.state) (bad_view b)) (sym (branch_is c.args.branch.now
+    ∙ ap (λ x. (pattern_view c.args.branch.now.pattern, expr_view x)) (sym c.deref.ensures)))
     (branch_stuck_out (code_of c.args.scope.now) c.args.position (pattern_view c.args.branch.now.pattern)
-    (expr_view c.args.branch.now.body) c.args.subject c.args.wanted c.args.number (here c.args.state.now)
+    (expr_view c.deref.result.now) c.args.subject c.args.wanted c.args.number (here c.args.state.now)
     (here c.enter_both.new.state) (here c.walk_part.new.state) c.in_ok-enter_both.ensures (bad_view b)
     (branch_stuck (code_of c.args.scope.now) c.args.position (pattern_view c.args.branch.now.pattern)
-    (expr_view c.args.branch.now.body) c.args.subject c.args.wanted (here c.enter_both.new.state)
+    (expr_view c.deref.result.now) c.args.subject c.args.wanted (here c.enter_both.new.state)
     (entered_can (code_of c.args.scope.now) c.args.position (pattern_view c.args.branch.now.pattern)
-    (expr_view c.args.branch.now.body) c.args.subject c.args.wanted c.args.number (here c.args.state.now)
+    (expr_view c.deref.result.now) c.args.subject c.args.wanted c.args.number (here c.args.state.now)
     (here c.enter_both.new.state) (here c.infer_pattern.new.state) c.in_ok-enter_both.ensures c.requires.can).ready
     (map bound_view c.in_ok-bound.bound.items) (here c.infer_pattern.new.state) (here c.walk_part.new.state)
     (bad_view b) matched
@@ -2218,25 +2237,26 @@ pub open_link-returns-in_err-walk_arguments-in-Given-clause-stopped :
 open_link-returns-in_err-walk_arguments-in-Given-clause-stopped t c = λ b e y. (
     let p = err_from_is_err_and c.from_residual-in_err-walk_arguments-in-Given.result
     c.from_residual-in_err-walk_arguments-in-Given.ensures.1 in
-    let stuck = subst (λ k. ArgumentsStuck k c.args.position (map expr_view c.deref.result.now)
+    let stuck = subst (λ k. ArgumentsStuck k c.args.position (map expr_view c.deref-in-Given.result.now)
     c.in_ok-variables-in-Given.variables.items (here c.walk_callee.new.state) (here c.walk_arguments.new.state)
     (bad_view b)) c.in_ok-variables-in-Given.ensures.scope
     (c.in_err-walk_arguments-in-Given.ensures.stopped b (other_error _ _ (rw (p.1, p.2) at e))) in
-    let s = stuck (expr_view c.in-Given.callee) c.args.wanted (c.len-count.result + 1) (here c.args.state.now)
+    let s = stuck (expr_view c.deref.result.now) c.args.wanted (c.len-count.result + 1) (here c.args.state.now)
     c.requires.can (subst (λ vs. length vs ≡ suc (c.len-count.result + 1)) refl
     c.in_ok-variables-in-Given.ensures.number)
-    (subst (λ vs. CallOpens (code_of c.args.scope.now) c.args.wanted (expr_view c.in-Given.callee)
+    (subst (λ vs. CallOpens (code_of c.args.scope.now) c.args.wanted (expr_view c.deref.result.now)
     (c.len-count.result + 1) c.args.position [] vs (here c.args.state.now) (here c.walk_callee.new.state)) refl
     c.in_ok-variables-in-Given.ensures.opened) (y ∷ [])
-    (let d = ap length c.deref.ensures.value in let m = length-map c.deref.result.now expr_view in omega
+    (let d = ap length c.deref-in-Given.ensures.value in let m = length-map c.deref-in-Given.result.now expr_view in omega
     (arith, d, m, c.len-count.ensures)) in
     shown_stuck (code_of c.args.scope.now) c.args.wanted c.args.position (here c.args.state.now)
     (here c.walk_arguments.new.state) (bad_view b) _ _
-    (ap (λ l. done l y) (ap link_view c.in-Given.is ∙ view.given c.in-Given.callee c.in-Given.arguments))
+    (ap (λ l. done l y) (ap link_view c.in-Given.is ∙ view.given c.in-Given.callee c.in-Given.arguments
+    ∙ ap (λ x. Given (expr_view x) (map expr_view c.in-Given.arguments.items)) (sym c.deref.ensures)))
     (subst (λ xs. Stuck Wanted (code_of c.args.scope.now) (one c.args.wanted) below
-    (listed (Apply (expr_view c.in-Given.callee) (exprs_of (map expr_view xs ++ y ∷ []))) c.args.position)
+    (listed (Apply (expr_view c.deref.result.now) (exprs_of (map expr_view xs ++ y ∷ []))) c.args.position)
     (here c.args.state.now) (here c.walk_arguments.new.state) (bad_view b))
-    (c.deref.ensures.value) (s)))
+    (c.deref-in-Given.ensures.value) (s)))
 
 pub walk-returns-in_ok-variables-in-Apply-clause-walked : goal.walk-returns-in_ok-variables-in-Apply-clause-walked
 walk-returns-in_ok-variables-in-Apply-clause-walked t c =
@@ -3233,9 +3253,9 @@ walk_definition-walk_function-requires t c =
       (
         c.requires.can,
         (
-          subst (λ ps. EachFieldsOnce (patterns_of (map pattern_view ps))) (sym c.deref.ensures.value) f.0,
+          subst (λ ps. EachFieldsOnce (patterns_of (map pattern_view ps))) (sym c.deref-in-Together.ensures.value) f.0,
           (
-            f.1,
+            subst (λ x. Formed (expr_view x)) (sym c.deref.ensures) f.1,
             c.requires.wanted,
           ),
         ),
@@ -3258,9 +3278,13 @@ walk_definition-returns-in-Together-clause-walked t c =
     (sym (function_list c.in-Together.functions.items c.args.function each d here_
     (subst (λ g. in_group (Some g) c.args.function ≡ Some d) same spot)))
     (subst (λ ps. Went Wanted (code_of c.args.scope.now) (one c.args.wanted) below
-    (function_of (map pattern_view ps) (expr_view each.body) each.title.place) (here c.args.state.now)
+    (function_of (map pattern_view ps) (expr_view each.body.value) each.title.place) (here c.args.state.now)
     (here c.walk_function.new.state))
-    c.deref.ensures.value w)) c.walk_function.ensures.walked
+    c.deref-in-Together.ensures.value
+    (subst (λ x. Went Wanted (code_of c.args.scope.now) (one c.args.wanted) below
+    (function_of (map pattern_view c.deref-in-Together.result.now) (expr_view x) each.title.place)
+    (here c.args.state.now) (here c.walk_function.new.state))
+    c.deref.ensures w))) c.walk_function.ensures.walked
 
 pub walk_definition-returns-in-Together-clause-stopped : goal.walk_definition-returns-in-Together-clause-stopped
 walk_definition-returns-in-Together-clause-stopped t c = λ b e d spot. (
@@ -3277,13 +3301,18 @@ walk_definition-returns-in-Together-clause-stopped t c = λ b e d spot. (
     (sym (function_list c.in-Together.functions.items c.args.function each d here_
     (subst (λ g. in_group (Some g) c.args.function ≡ Some d) same spot)))
     (subst (λ ps. Stuck Wanted (code_of c.args.scope.now) (one c.args.wanted) below
-    (function_of (map pattern_view ps) (expr_view each.body) each.title.place) (here c.args.state.now)
+    (function_of (map pattern_view ps) (expr_view each.body.value) each.title.place) (here c.args.state.now)
     (here c.walk_function.new.state) (bad_view b))
-    c.deref.ensures.value (c.walk_function.ensures.stopped b e)))
+    c.deref-in-Together.ensures.value
+    (subst (λ x. Stuck Wanted (code_of c.args.scope.now) (one c.args.wanted) below
+    (function_of (map pattern_view c.deref-in-Together.result.now) (expr_view x) each.title.place)
+    (here c.args.state.now) (here c.walk_function.new.state) (bad_view b))
+    c.deref.ensures (c.walk_function.ensures.stopped b e))))
 
 pub walk_definition-walk_function-requires-in-Constant : goal.walk_definition-walk_function-requires-in-Constant
 walk_definition-walk_function-requires-in-Constant t c =
-    let same = ap group_view c.in-Constant.is ∙ view.constant c.in-Constant.title c.in-Constant.body in (
+    let same = ap group_view c.in-Constant.is ∙ view.constant c.in-Constant.title c.in-Constant.body
+    ∙ ap (λ x. tree.Constant (title_view c.in-Constant.title) (expr_view x)) (sym c.deref-in-Constant.ensures) in (
       first_of (omega (arith, c.decreases), search (rules, the_lemmas, c.decreases), search rules),
       (
         c.requires.can,
@@ -3299,20 +3328,22 @@ walk_definition-walk_function-requires-in-Constant t c =
 
 pub walk_definition-returns-in-Constant-clause-walked : goal.walk_definition-returns-in-Constant-clause-walked
 walk_definition-returns-in-Constant-clause-walked t c =
-    let same = ap group_view c.in-Constant.is ∙ view.constant c.in-Constant.title c.in-Constant.body in
+    let same = ap group_view c.in-Constant.is ∙ view.constant c.in-Constant.title c.in-Constant.body
+    ∙ ap (λ x. tree.Constant (title_view c.in-Constant.title) (expr_view x)) (sym c.deref-in-Constant.ensures) in
     on_ok_weaker c.walk_function-in-Constant.result (λ w d spot.
     subst (λ (l : Scope → Place → Wanted → List Item). Went Wanted (code_of c.args.scope.now) (one c.args.wanted) below
     (λ s q v. l s q v) (here c.args.state.now) (here c.walk_function-in-Constant.new.state))
-    (sym (constant_list c.in-Constant.title (expr_view c.in-Constant.body) c.args.function d
+    (sym (constant_list c.in-Constant.title (expr_view c.deref-in-Constant.result.now) c.args.function d
     (subst (λ g. in_group (Some g) c.args.function ≡ Some d) same spot)))
     w) c.walk_function-in-Constant.ensures.walked
 
 pub walk_definition-returns-in-Constant-clause-stopped : goal.walk_definition-returns-in-Constant-clause-stopped
 walk_definition-returns-in-Constant-clause-stopped t c = λ b e d spot. (
-    let same = ap group_view c.in-Constant.is ∙ view.constant c.in-Constant.title c.in-Constant.body in
+    let same = ap group_view c.in-Constant.is ∙ view.constant c.in-Constant.title c.in-Constant.body
+    ∙ ap (λ x. tree.Constant (title_view c.in-Constant.title) (expr_view x)) (sym c.deref-in-Constant.ensures) in
     subst (λ (l : Scope → Place → Wanted → List Item). Stuck Wanted (code_of c.args.scope.now) (one c.args.wanted) below
     (λ s q v. l s q v) (here c.args.state.now) (here c.walk_function-in-Constant.new.state) (bad_view b))
-    (sym (constant_list c.in-Constant.title (expr_view c.in-Constant.body) c.args.function d
+    (sym (constant_list c.in-Constant.title (expr_view c.deref-in-Constant.result.now) c.args.function d
     (subst (λ g. in_group (Some g) c.args.function ≡ Some d) same spot)))
     (c.walk_function-in-Constant.ensures.stopped b e))
 
@@ -3484,11 +3515,12 @@ walk_destructured-returns-in_err-begun-in-Destructure-clause-stopped t c y e = (
     subst (λ (g : tree.Group). InferredStops (code_of c.args.scope.now) (group_definitions g) c.args.number
     (here c.args.state.now) (here c.begin_pattern.new.state) (bad_view y))
     (sym same) (c.in_err-begun-in-Destructure.ensures.stops y (other_error _ _ (rw (p.1, p.2) at e))
-    (expr_view c.in-Destructure.body)))
+    (expr_view c.in-Destructure.body.value)))
 
 pub walk_destructured-walk-requires : goal.walk_destructured-walk-requires
 walk_destructured-walk-requires t c =
-    let same = ap group_view c.in-Destructure.is ∙ view.destructure c.in-Destructure.pattern c.in-Destructure.body in
+    let same = ap group_view c.in-Destructure.is ∙ view.destructure c.in-Destructure.pattern c.in-Destructure.body
+    ∙ ap (λ x. tree.Destructure (pattern_view c.in-Destructure.pattern) (expr_view x)) (sym c.deref.ensures) in
     let starts : c.args.place ≡ pattern_start nowhere (pattern_view c.in-Destructure.pattern) = subst
     (StartsAt c.args.place) same c.requires.pattern in
     let inner = code_of c.begin_pattern.new.scope in
@@ -3509,7 +3541,8 @@ walk_destructured-walk-requires t c =
 pub walk_destructured-returns-in_err-walk-in-Destructure-clause-stopped :
     goal.walk_destructured-returns-in_err-walk-in-Destructure-clause-stopped
 walk_destructured-returns-in_err-walk-in-Destructure-clause-stopped t c y e = (
-    let same = ap group_view c.in-Destructure.is ∙ view.destructure c.in-Destructure.pattern c.in-Destructure.body in
+    let same = ap group_view c.in-Destructure.is ∙ view.destructure c.in-Destructure.pattern c.in-Destructure.body
+    ∙ ap (λ x. tree.Destructure (pattern_view c.in-Destructure.pattern) (expr_view x)) (sym c.deref.ensures) in
     let starts : c.args.place ≡ pattern_start nowhere (pattern_view c.in-Destructure.pattern) = subst
     (StartsAt c.args.place) same c.requires.pattern in
     let inner = code_of c.begin_pattern.new.scope in
@@ -3519,16 +3552,16 @@ walk_destructured-returns-in_err-walk-in-Destructure-clause-stopped t c y e = (
     let p = err_from_is_err_and c.from_residual-in_err-walk-in-Destructure.result
     c.from_residual-in_err-walk-in-Destructure.ensures.1 in
     let stuck = subst (λ (s : plain.State). Stuck Wanted inner (one v) below
-    (listed (expr_view c.in-Destructure.body) c.args.place) s (here c.walk.new.state) (bad_view y))
+    (listed (expr_view c.deref.result.now) c.args.place) s (here c.walk.new.state) (bad_view y))
     c.in_ok-enter-in-Destructure.ensures (c.in_err-walk-in-Destructure.ensures.stopped y
     (other_error _ _ (rw (p.1, p.2) at e))) in
     subst (λ (g : tree.Group). InferredStops (code_of c.args.scope.now) (group_definitions g) c.args.number
     (here c.args.state.now) (here c.walk.new.state) (bad_view y)) (sym same)
     (value_law (code_of c.args.scope.now) inner (pattern_view c.in-Destructure.pattern)
-    (expr_view c.in-Destructure.body) c.args.number v
+    (expr_view c.deref.result.now) c.args.number v
     (named_views c.in_ok-begun-in-Destructure.begun.names.items) (here c.args.state.now) now (here c.walk.new.state)
     (bad_view y) b
-    (subst (λ (h : Pos). Stuck Wanted inner (one v) below (listed (expr_view c.in-Destructure.body) h) (at_child now 1)
+    (subst (λ (h : Pos). Stuck Wanted inner (one v) below (listed (expr_view c.deref.result.now) h) (at_child now 1)
     (here c.walk.new.state) (bad_view y)) starts stuck)))
 
 pub walk_destructured-end_pattern-requires-clause-whole : goal.walk_destructured-end_pattern-requires-clause-whole
@@ -3545,7 +3578,8 @@ walk_destructured-end_pattern-requires-clause-inside t c =
 pub walk_destructured-returns-in_err-end_pattern-in-Destructure-clause-stopped :
     goal.walk_destructured-returns-in_err-end_pattern-in-Destructure-clause-stopped
 walk_destructured-returns-in_err-end_pattern-in-Destructure-clause-stopped t c y e = (
-    let same = ap group_view c.in-Destructure.is ∙ view.destructure c.in-Destructure.pattern c.in-Destructure.body in
+    let same = ap group_view c.in-Destructure.is ∙ view.destructure c.in-Destructure.pattern c.in-Destructure.body
+    ∙ ap (λ x. tree.Destructure (pattern_view c.in-Destructure.pattern) (expr_view x)) (sym c.deref.ensures) in
     let starts : c.args.place ≡ pattern_start nowhere (pattern_view c.in-Destructure.pattern) = subst
     (StartsAt c.args.place) same c.requires.pattern in
     let inner = code_of c.begin_pattern.new.scope in
@@ -3553,14 +3587,14 @@ walk_destructured-returns-in_err-end_pattern-in-Destructure-clause-stopped t c y
     let v = c.in_ok-begun-in-Destructure.begun.variable in
     let b = c.in_ok-begun-in-Destructure.ensures.begun in
     let went = subst (λ (s : plain.State). Went Wanted inner (one v) below
-    (listed (expr_view c.in-Destructure.body) c.args.place) s (here c.walk.new.state))
+    (listed (expr_view c.deref.result.now) c.args.place) s (here c.walk.new.state))
     c.in_ok-enter-in-Destructure.ensures c.in_ok-walk-in-Destructure.ensures.walked in
     let p = err_from_is_err_and c.from_residual-in_err-end_pattern-in-Destructure.result
     c.from_residual-in_err-end_pattern-in-Destructure.ensures.1 in
     subst (λ (g : tree.Group). InferredStops (code_of c.args.scope.now) (group_definitions g) c.args.number
     (here c.args.state.now) (here c.end_pattern.new.state) (bad_view y)) (sym same)
     (c.in_err-end_pattern-in-Destructure.ensures.large y (other_error _ _ (rw (p.1, p.2) at e))
-    (code_of c.args.scope.now) inner (pattern_view c.in-Destructure.pattern) (expr_view c.in-Destructure.body)
+    (code_of c.args.scope.now) inner (pattern_view c.in-Destructure.pattern) (expr_view c.deref.result.now)
     c.args.number (named_views c.in_ok-begun-in-Destructure.begun.names.items) (here c.args.state.now) now starts b
     went))
 
@@ -3571,7 +3605,8 @@ walk_destructured-returns-clause-left t c =
 
 pub walk_destructured-returns-clause-walked : goal.walk_destructured-returns-clause-walked
 walk_destructured-returns-clause-walked t c =
-    let same = ap group_view c.in-Destructure.is ∙ view.destructure c.in-Destructure.pattern c.in-Destructure.body in
+    let same = ap group_view c.in-Destructure.is ∙ view.destructure c.in-Destructure.pattern c.in-Destructure.body
+    ∙ ap (λ x. tree.Destructure (pattern_view c.in-Destructure.pattern) (expr_view x)) (sym c.deref.ensures) in
     let starts : c.args.place ≡ pattern_start nowhere (pattern_view c.in-Destructure.pattern) = subst
     (StartsAt c.args.place) same c.requires.pattern in
     let inner = code_of c.begin_pattern.new.scope in
@@ -3579,13 +3614,13 @@ walk_destructured-returns-clause-walked t c =
     let v = c.in_ok-begun-in-Destructure.begun.variable in
     let b = c.in_ok-begun-in-Destructure.ensures.begun in
     let went = subst (λ (s : plain.State). Went Wanted inner (one v) below
-    (listed (expr_view c.in-Destructure.body) c.args.place) s (here c.walk.new.state))
+    (listed (expr_view c.deref.result.now) c.args.place) s (here c.walk.new.state))
     c.in_ok-enter-in-Destructure.ensures c.in_ok-walk-in-Destructure.ensures.walked in
     subst (λ (g : tree.Group). GroupDone (code_of c.args.scope.now) (group_definitions g) c.args.number
     (named_views c.in_ok-begun-in-Destructure.begun.names.items) (here c.args.state.now) (here c.end_pattern.new.state))
     (sym same)
     (c.in_ok-end_pattern-in-Destructure.ensures.ends (code_of c.args.scope.now) inner
-    (pattern_view c.in-Destructure.pattern) (expr_view c.in-Destructure.body)
+    (pattern_view c.in-Destructure.pattern) (expr_view c.deref.result.now)
     c.args.number (named_views c.in_ok-begun-in-Destructure.begun.names.items) (here c.args.state.now) now starts b
     went)
 
@@ -3628,8 +3663,8 @@ open_link-open_composed-requires t c = (
   (
     c.requires.can,
     (
-      (subst FormedLink (ap link_view c.in-Composed.is ∙ view.composed c.in-Composed.callee
-          c.in-Composed.field-1) c.requires.formed).0,
+      (subst FormedLink (ap link_view c.in-Composed.is ∙ view.composed c.in-Composed.callee c.in-Composed.field-1
+          ∙ ap (λ x. Composed (expr_view x) (expr_view c.in-Composed.field-1.value)) (sym c.deref-in-Composed.ensures)) c.requires.formed).0,
       c.requires.wanted,
     ),
   ),
@@ -3639,7 +3674,7 @@ pub open_link-returns-in-Composed-clause-opened : goal.open_link-returns-in-Comp
 open_link-returns-in-Composed-clause-opened t c =
     IfOk-weaker c.open_composed.result
     (λ (v : ℕ). (x : tree.Expr) → OpensOne (code_of c.args.scope.now) c.args.position (Composed
-    (expr_view c.in-Composed.callee) x)
+    (expr_view c.deref-in-Composed.result.now) x)
     (map (λ vs. vs.items) c.args.kept.now.items) (map (λ vs. vs.items) c.open_composed.new.kept.items)
     (here c.args.state.now) c.args.wanted
     (here c.open_composed.new.state) v)
@@ -3651,15 +3686,17 @@ open_link-returns-in-Composed-clause-opened t c =
     c.args.kept.now.items)
     (map (λ vs. vs.items) c.open_composed.new.kept.items) (here c.args.state.now) c.args.wanted
     (here c.open_composed.new.state) v)
-    (sym (ap link_view c.in-Composed.is ∙ view.composed c.in-Composed.callee c.in-Composed.field-1)) (o
-    (expr_view c.in-Composed.field-1))) c.open_composed.ensures.opened
+    (sym (ap link_view c.in-Composed.is ∙ view.composed c.in-Composed.callee c.in-Composed.field-1
+    ∙ ap (λ x. Composed (expr_view x) (expr_view c.in-Composed.field-1.value)) (sym c.deref-in-Composed.ensures))) (o
+    (expr_view c.in-Composed.field-1.value))) c.open_composed.ensures.opened
 
 pub open_link-returns-in-Composed-clause-stopped : goal.open_link-returns-in-Composed-clause-stopped
 open_link-returns-in-Composed-clause-stopped t c = λ b e y.
     shown_stuck (code_of c.args.scope.now) c.args.wanted c.args.position (here c.args.state.now)
     (here c.open_composed.new.state) (bad_view b) _ _
-    (ap (λ l. done l y) (ap link_view c.in-Composed.is ∙ view.composed c.in-Composed.callee c.in-Composed.field-1))
-    (c.open_composed.ensures.stopped b e (expr_view c.in-Composed.field-1) y)
+    (ap (λ l. done l y) (ap link_view c.in-Composed.is ∙ view.composed c.in-Composed.callee c.in-Composed.field-1
+    ∙ ap (λ x. Composed (expr_view x) (expr_view c.in-Composed.field-1.value)) (sym c.deref-in-Composed.ensures)))
+    (c.open_composed.ensures.stopped b e (expr_view c.in-Composed.field-1.value) y)
 
 pub open_link-open_after-requires : goal.open_link-open_after-requires
 open_link-open_after-requires t c = (
@@ -3721,14 +3758,14 @@ open_link-returns-in-Before-clause-opened t c =
     (map (λ vs. vs.items) c.open_before.new.kept.items) (here c.args.state.now) c.args.wanted
     (here c.open_before.new.state) v)
     (sym (ap link_view c.in-Before.is ∙ view.part_before c.in-Before.op c.in-Before.field-1)) (o
-    (expr_view c.in-Before.field-1))) c.open_before.ensures.opened
+    (expr_view c.in-Before.field-1.value))) c.open_before.ensures.opened
 
 pub open_link-returns-in-Before-clause-stopped : goal.open_link-returns-in-Before-clause-stopped
 open_link-returns-in-Before-clause-stopped t c = λ b e y.
     shown_stuck (code_of c.args.scope.now) c.args.wanted c.args.position (here c.args.state.now)
     (here c.open_before.new.state) (bad_view b) _ _
     (ap (λ l. done l y) (ap link_view c.in-Before.is ∙ view.part_before c.in-Before.op c.in-Before.field-1))
-    (c.open_before.ensures.stopped b e (expr_view c.in-Before.field-1) y)
+    (c.open_before.ensures.stopped b e (expr_view c.in-Before.field-1.value) y)
 
 pub open_link-open_decided-requires : goal.open_link-open_decided-requires
 open_link-open_decided-requires t c = (
@@ -3736,8 +3773,8 @@ open_link-open_decided-requires t c = (
   (
     c.requires.can,
     (
-      (subst FormedLink (ap link_view c.in-Decided.is ∙ view.decided c.in-Decided.place
-          c.in-Decided.field-1 c.in-Decided.left) c.requires.formed),
+      (subst FormedLink (ap link_view c.in-Decided.is ∙ view.decided c.in-Decided.place c.in-Decided.field-1 c.in-Decided.left
+          ∙ ap (λ x. Decided c.in-Decided.place c.in-Decided.field-1 (expr_view x)) (sym c.deref-in-Decided.ensures)) c.requires.formed),
       c.requires.wanted,
     ),
   ),
@@ -3747,7 +3784,7 @@ pub open_link-returns-in-Decided-clause-opened : goal.open_link-returns-in-Decid
 open_link-returns-in-Decided-clause-opened t c =
     IfOk-weaker c.open_decided.result
     (λ (v : ℕ). (x : Connective) → OpensOne (code_of c.args.scope.now) c.args.position (Decided c.in-Decided.place x
-    (expr_view c.in-Decided.left))
+    (expr_view c.deref-in-Decided.result.now))
     (map (λ vs. vs.items) c.args.kept.now.items) (map (λ vs. vs.items) c.open_decided.new.kept.items)
     (here c.args.state.now) c.args.wanted
     (here c.open_decided.new.state) v)
@@ -3759,15 +3796,16 @@ open_link-returns-in-Decided-clause-opened t c =
     c.args.kept.now.items)
     (map (λ vs. vs.items) c.open_decided.new.kept.items) (here c.args.state.now) c.args.wanted
     (here c.open_decided.new.state) v)
-    (sym (ap link_view c.in-Decided.is ∙ view.decided c.in-Decided.place c.in-Decided.field-1 c.in-Decided.left))
+    (sym (ap link_view c.in-Decided.is ∙ view.decided c.in-Decided.place c.in-Decided.field-1 c.in-Decided.left
+    ∙ ap (λ x. Decided c.in-Decided.place c.in-Decided.field-1 (expr_view x)) (sym c.deref-in-Decided.ensures)))
     (o c.in-Decided.field-1)) c.open_decided.ensures.opened
 
 pub open_link-returns-in-Decided-clause-stopped : goal.open_link-returns-in-Decided-clause-stopped
 open_link-returns-in-Decided-clause-stopped t c = λ b e y.
     shown_stuck (code_of c.args.scope.now) c.args.wanted c.args.position (here c.args.state.now)
     (here c.open_decided.new.state) (bad_view b) _ _
-    (ap (λ l. done l y) (ap link_view c.in-Decided.is ∙ view.decided c.in-Decided.place c.in-Decided.field-1
-    c.in-Decided.left)) (c.open_decided.ensures.stopped b e c.in-Decided.field-1 y)
+    (ap (λ l. done l y) (ap link_view c.in-Decided.is ∙ view.decided c.in-Decided.place c.in-Decided.field-1 c.in-Decided.left
+    ∙ ap (λ x. Decided c.in-Decided.place c.in-Decided.field-1 (expr_view x)) (sym c.deref-in-Decided.ensures))) (c.open_decided.ensures.stopped b e c.in-Decided.field-1 y)
 
 pub open_composed-walk_callee-requires : goal.open_composed-walk_callee-requires
 open_composed-walk_callee-requires t c = (

@@ -186,7 +186,8 @@ pub push_group-returns-in-Constant : goal.push_group-returns-in-Constant
 push_group-returns-in-Constant t c =
     subst (λ z. OnOk c.push_expr.result (c.push_expr.new.found.items ≡ z))
     (ap (λ us. c.args.found.now.items ++ us)
-    (sym (ap (λ e. all_numbers c.args.owners.now (used_group (group_view e))) c.in-Constant.is ∙ ap
+    (ap (λ e. all_numbers c.args.owners.now (used (expr_view e))) c.deref-in-Constant.ensures ∙ sym
+    (ap (λ e. all_numbers c.args.owners.now (used_group (group_view e))) c.in-Constant.is ∙ ap
     (λ e. all_numbers c.args.owners.now (used_group e)) (view.constant c.in-Constant.field-0 c.in-Constant.body))))
     c.push_expr.ensures
 
@@ -194,7 +195,8 @@ pub push_group-returns-in-Destructure : goal.push_group-returns-in-Destructure
 push_group-returns-in-Destructure t c =
     subst (λ z. OnOk c.push_expr-in-Destructure.result (c.push_expr-in-Destructure.new.found.items ≡ z))
     (ap (λ us. c.args.found.now.items ++ us)
-    (sym (ap (λ e. all_numbers c.args.owners.now (used_group (group_view e))) c.in-Destructure.is ∙ ap
+    (ap (λ e. all_numbers c.args.owners.now (used (expr_view e))) c.deref-in-Destructure.ensures ∙ sym
+    (ap (λ e. all_numbers c.args.owners.now (used_group (group_view e))) c.in-Destructure.is ∙ ap
     (λ e. all_numbers c.args.owners.now (used_group e))
     (view.destructure c.in-Destructure.field-0 c.in-Destructure.body))))
     c.push_expr-in-Destructure.ensures
@@ -220,10 +222,12 @@ push_branches-loop-branch-preserved t c =
     c.in_ok-push_expr.ensures
     ∙ also c.args.found.now.items c.loop-branch.found.items
     (all_numbers c.args.owners.now (used_branches (branches_of first)))
-    (all_numbers c.args.owners.now (used (expr_view x.body)))
+    (all_numbers c.args.owners.now (used (expr_view c.deref.result.now)))
     (all_numbers c.args.owners.now (used_branches (branches_of (first ++ branch_view x ∷ [])))) c.loop-branch.invariant
-    (ap (λ b. all_numbers c.args.owners.now (used_branches (branches_of first)) ++ all_numbers c.args.owners.now
-    (used b.1)) (sym (view.branch x)) ∙ branches_next c.args.owners.now first (branch_view x))
+    (ap (λ e. all_numbers c.args.owners.now (used_branches (branches_of first)) ++ all_numbers c.args.owners.now
+    (used (expr_view e))) c.deref.ensures ∙ ap
+    (λ b. all_numbers c.args.owners.now (used_branches (branches_of first)) ++ all_numbers c.args.owners.now (used b.1))
+    (sym (view.branch x)) ∙ branches_next c.args.owners.now first (branch_view x))
     ∙ ap (λ l. c.args.found.now.items ++ all_numbers c.args.owners.now (used_branches (branches_of l)))
     (sym (map_next branch_view c.args.branches.now i x (omega arith) c.branch-item.is))
 
@@ -249,10 +253,12 @@ push_functions-loop-function-preserved t c =
     c.in_ok-push_expr.ensures
     ∙ also c.args.found.now.items c.loop-function.found.items
     (all_numbers c.args.owners.now (used_functions (functions_of first)))
-    (all_numbers c.args.owners.now (used (expr_view x.body)))
+    (all_numbers c.args.owners.now (used (expr_view c.deref.result.now)))
     (all_numbers c.args.owners.now (used_functions (functions_of (first ++ function_view x ∷ []))))
     c.loop-function.invariant
-    (ap (λ f. all_numbers c.args.owners.now (used_functions (functions_of first)) ++ all_numbers c.args.owners.now
+    (ap (λ e. all_numbers c.args.owners.now (used_functions (functions_of first)) ++ all_numbers c.args.owners.now
+    (used (expr_view e))) c.deref.ensures ∙ ap
+    (λ f. all_numbers c.args.owners.now (used_functions (functions_of first)) ++ all_numbers c.args.owners.now
     (used f.2)) (sym (view.function x)) ∙ functions_next c.args.owners.now first (function_view x))
     ∙ ap (λ l. c.args.found.now.items ++ all_numbers c.args.owners.now (used_functions (functions_of l)))
     (sym (map_next function_view c.args.functions.now i x (omega arith) c.function-item.is))
@@ -261,14 +267,16 @@ pub push_one_before-returns-in_ok-push_expr-in-Given : goal.push_one_before-retu
 push_one_before-returns-in_ok-push_expr-in-Given t c =
     subst (λ z. OnOk c.push_all.result (c.push_all.new.found.items ≡ z))
     (also c.args.found.now.items c.push_expr.new.found.items
-    (all_numbers c.args.owners.now (used (expr_view c.in-Given.function)))
-    (all_numbers c.args.owners.now (used_each (exprs_of (map expr_view c.deref.result.now))))
+    (all_numbers c.args.owners.now (used (expr_view c.deref.result.now)))
+    (all_numbers c.args.owners.now (used_each (exprs_of (map expr_view c.deref-in-Given.result.now))))
     (all_numbers c.args.owners.now (before (link_view c.args.link.now))) c.in_ok-push_expr-in-Given.ensures
-    (ap (λ z. all_numbers c.args.owners.now (used (expr_view c.in-Given.function)) ++ all_numbers c.args.owners.now
-    (used_each (exprs_of (map expr_view z)))) c.deref.ensures.value
+    (ap (λ z. all_numbers c.args.owners.now (used (expr_view z)) ++ all_numbers c.args.owners.now
+    (used_each (exprs_of (map expr_view c.deref-in-Given.result.now)))) c.deref.ensures
+    ∙ ap (λ z. all_numbers c.args.owners.now (used (expr_view c.in-Given.function.value)) ++ all_numbers
+    c.args.owners.now (used_each (exprs_of (map expr_view z)))) c.deref-in-Given.ensures.value
     ∙ sym (ap (λ l. all_numbers c.args.owners.now (before (link_view l))) c.in-Given.is ∙ ap
     (λ l. all_numbers c.args.owners.now (before l)) (view.given c.in-Given.function c.in-Given.arguments)
-    ∙ two c.args.owners.now (used (expr_view c.in-Given.function))
+    ∙ two c.args.owners.now (used (expr_view c.in-Given.function.value))
     (used_each (exprs_of (map expr_view c.in-Given.arguments.items))))))
     c.push_all.ensures
 
@@ -276,7 +284,8 @@ pub push_one_before-returns-in-Composed : goal.push_one_before-returns-in-Compos
 push_one_before-returns-in-Composed t c =
     subst (λ z. OnOk c.push_expr-in-Composed.result (c.push_expr-in-Composed.new.found.items ≡ z))
     (ap (λ us. c.args.found.now.items ++ us)
-    (sym (ap (λ l. all_numbers c.args.owners.now (before (link_view l))) c.in-Composed.is ∙ ap
+    (ap (λ e. all_numbers c.args.owners.now (used (expr_view e))) c.deref-in-Composed.ensures ∙ sym
+    (ap (λ l. all_numbers c.args.owners.now (before (link_view l))) c.in-Composed.is ∙ ap
     (λ l. all_numbers c.args.owners.now (before l)) (view.composed c.in-Composed.function c.in-Composed.field-1))))
     c.push_expr-in-Composed.ensures
 
@@ -299,7 +308,8 @@ pub push_one_before-returns-in-Decided : goal.push_one_before-returns-in-Decided
 push_one_before-returns-in-Decided t c =
     subst (λ z. OnOk c.push_expr-in-Decided.result (c.push_expr-in-Decided.new.found.items ≡ z))
     (ap (λ us. c.args.found.now.items ++ us)
-    (sym (ap (λ l. all_numbers c.args.owners.now (before (link_view l))) c.in-Decided.is ∙ ap
+    (ap (λ e. all_numbers c.args.owners.now (used (expr_view e))) c.deref-in-Decided.ensures ∙ sym
+    (ap (λ l. all_numbers c.args.owners.now (before (link_view l))) c.in-Decided.is ∙ ap
     (λ l. all_numbers c.args.owners.now (before l))
     (view.decided c.in-Decided.field-0 c.in-Decided.field-1 c.in-Decided.left))))
     c.push_expr-in-Decided.ensures
@@ -314,7 +324,8 @@ pub push_one_after-returns-in-Composed : goal.push_one_after-returns-in-Composed
 push_one_after-returns-in-Composed t c =
     subst (λ z. OnOk c.push_expr.result (c.push_expr.new.found.items ≡ z))
     (ap (λ us. c.args.found.now.items ++ us)
-    (sym (ap (λ l. all_numbers c.args.owners.now (after (link_view l))) c.in-Composed.is ∙ ap
+    (ap (λ e. all_numbers c.args.owners.now (used (expr_view e))) c.deref.ensures ∙ sym
+    (ap (λ l. all_numbers c.args.owners.now (after (link_view l))) c.in-Composed.is ∙ ap
     (λ l. all_numbers c.args.owners.now (after l)) (view.composed c.in-Composed.field-0 c.in-Composed.right))))
     c.push_expr.ensures
 
@@ -328,7 +339,8 @@ pub push_one_after-returns-in-Before : goal.push_one_after-returns-in-Before
 push_one_after-returns-in-Before t c =
     subst (λ z. OnOk c.push_expr-in-Before.result (c.push_expr-in-Before.new.found.items ≡ z))
     (ap (λ us. c.args.found.now.items ++ us)
-    (sym (ap (λ l. all_numbers c.args.owners.now (after (link_view l))) c.in-Before.is ∙ ap
+    (ap (λ e. all_numbers c.args.owners.now (used (expr_view e))) c.deref-in-Before.ensures ∙ sym
+    (ap (λ l. all_numbers c.args.owners.now (after (link_view l))) c.in-Before.is ∙ ap
     (λ l. all_numbers c.args.owners.now (after l)) (view.part_before c.in-Before.field-0 c.in-Before.right))))
     c.push_expr-in-Before.ensures
 

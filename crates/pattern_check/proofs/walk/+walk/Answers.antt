@@ -131,16 +131,22 @@ push_group-returns-in-Together t c =
 pub push_group-returns-in-Constant : goal.push_group-returns-in-Constant
 push_group-returns-in-Constant t c =
     subst (λ z. OnOk c.push_expr.result (c.push_expr.new.findings.items ≡ z))
-    (ap (λ us. c.args.findings.now.items ++ us) (sym (ap (λ e. faults (group_sites c.args.here (group_view e))) c.in-Constant.is ∙ ap (λ e. faults (group_sites c.args.here e)) (view.constant c.in-Constant.title c.in-Constant.body))))
+    (ap (λ us. c.args.findings.now.items ++ us) (ap (λ e. faults (expr_sites c.in-Constant.title.place (expr_view e)))
+    c.deref-in-Constant.ensures ∙ sym (ap (λ e. faults (group_sites c.args.here (group_view e))) c.in-Constant.is ∙ ap
+    (λ e. faults (group_sites c.args.here e)) (view.constant c.in-Constant.title c.in-Constant.body))))
     c.push_expr.ensures
 
 pub push_group-returns-in_ok-push_sole-in-Destructure : goal.push_group-returns-in_ok-push_sole-in-Destructure
 push_group-returns-in_ok-push_sole-in-Destructure t c =
     let own = faults_at (Sole c.args.here (pattern_view c.in-Destructure.pattern)) in
     subst (λ z. OnOk c.push_expr-in-Destructure.result (c.push_expr-in-Destructure.new.findings.items ≡ z))
-    (also c.args.findings.now.items c.push_sole.new.findings.items own (faults (expr_sites c.args.here (expr_view c.in-Destructure.body))) (faults (group_sites c.args.here (group_view c.args.group.now)))
+    (also c.args.findings.now.items c.push_sole.new.findings.items own
+    (faults (expr_sites c.args.here (expr_view c.deref-in-Destructure.result.now)))
+    (faults (group_sites c.args.here (group_view c.args.group.now)))
     c.in_ok-push_sole-in-Destructure.ensures
-    (sym (ap (λ e. faults (group_sites c.args.here (group_view e))) c.in-Destructure.is ∙ ap (λ e. faults (group_sites c.args.here e)) (view.destructure c.in-Destructure.pattern c.in-Destructure.body))))
+    (ap (λ e. own ++ faults (expr_sites c.args.here (expr_view e))) c.deref-in-Destructure.ensures ∙ sym
+    (ap (λ e. faults (group_sites c.args.here (group_view e))) c.in-Destructure.is ∙ ap
+    (λ e. faults (group_sites c.args.here e)) (view.destructure c.in-Destructure.pattern c.in-Destructure.body))))
     c.push_expr-in-Destructure.ensures
 
 pub push_all-loop-expr-preserved : goal.push_all-loop-expr-preserved
@@ -159,9 +165,13 @@ push_branches-loop-branch-preserved t c =
     let x = c.branch-item.result in
     let first = map branch_view (take i c.args.branches.now) in
     c.in_ok-push_expr.ensures
-    ∙ also c.args.findings.now.items c.loop-branch.findings.items (faults (branches_sites c.args.here (branches_of first))) (faults (expr_sites c.args.here (expr_view x.body)))
+    ∙ also c.args.findings.now.items c.loop-branch.findings.items (faults
+    (branches_sites c.args.here (branches_of first))) (faults (expr_sites c.args.here (expr_view c.deref.result.now)))
     (faults (branches_sites c.args.here (branches_of (first ++ branch_view x ∷ [])))) c.loop-branch.invariant
-    (ap (λ b. faults (branches_sites c.args.here (branches_of first)) ++ faults (expr_sites c.args.here b.1)) (sym (view.branch x)) ∙ branches_next c.args.here first (branch_view x))
+    (ap (λ e. faults (branches_sites c.args.here (branches_of first)) ++ faults
+    (expr_sites c.args.here (expr_view e))) c.deref.ensures
+    ∙ ap (λ b. faults (branches_sites c.args.here (branches_of first)) ++ faults (expr_sites c.args.here b.1))
+    (sym (view.branch x)) ∙ branches_next c.args.here first (branch_view x))
     ∙ ap (λ l. c.args.findings.now.items ++ faults (branches_sites c.args.here (branches_of l))) (sym (map_next branch_view c.args.branches.now i x (omega arith) c.branch-item.is))
 
 pub push_groups-loop-group-preserved : goal.push_groups-loop-group-preserved
@@ -181,28 +191,37 @@ push_functions-loop-function-preserved t c =
     let first = map function_view (take i c.args.functions.now) in
     let done = faults (functions_sites (functions_of first)) in
     let a = faults (sole_sites x.title.place (patterns_view c.deref.result.now)) in
-    let b = faults (expr_sites x.title.place (expr_view x.body)) in
+    let b = faults (expr_sites x.title.place (expr_view c.deref-in-loop-function.result.now)) in
     c.in_ok-push_expr.ensures
     ∙ also c.args.findings.now.items c.push_soles.new.findings.items (done ++ a) b
     (faults (functions_sites (functions_of (first ++ function_view x ∷ []))))
     (c.in_ok-push_soles.ensures ∙ also c.args.findings.now.items c.loop-function.findings.items done a (done ++ a) c.loop-function.invariant refl)
     (ap (λ z. done ++ faults (sole_sites x.title.place (patterns_view z)) ++ b) c.deref.ensures.value
+    ∙ ap (λ e. done ++ faults (sole_sites x.title.place (patterns_view x.parameters.items)) ++ faults
+    (expr_sites x.title.place (expr_view e))) c.deref-in-loop-function.ensures
     ∙ ap (λ f. done ++ faults (sole_sites f.0.place f.1) ++ faults (expr_sites f.0.place f.2)) (sym (view.function x)) ∙ functions_next first (function_view x))
     ∙ ap (λ l. c.args.findings.now.items ++ faults (functions_sites (functions_of l))) (sym (map_next function_view c.args.functions.now i x (omega arith) c.function-item.is))
 
 pub push_one_before-returns-in_ok-push_expr-in-Given : goal.push_one_before-returns-in_ok-push_expr-in-Given
 push_one_before-returns-in_ok-push_expr-in-Given t c =
     subst (λ z. OnOk c.push_all.result (c.push_all.new.findings.items ≡ z))
-    (also c.args.findings.now.items c.push_expr.new.findings.items (faults (expr_sites c.args.here (expr_view c.in-Given.function))) (faults (exprs_sites c.args.here (exprs_of (map expr_view c.deref.result.now))))
+    (also c.args.findings.now.items c.push_expr.new.findings.items (faults
+    (expr_sites c.args.here (expr_view c.deref.result.now))) (faults (exprs_sites c.args.here
+    (exprs_of (map expr_view c.deref-in-Given.result.now))))
     (before c.args.here (link_view c.args.link.now)) c.in_ok-push_expr-in-Given.ensures
-    (ap (λ z. faults (expr_sites c.args.here (expr_view c.in-Given.function)) ++ faults (exprs_sites c.args.here (exprs_of (map expr_view z)))) c.deref.ensures.value
+    (ap (λ z. faults (expr_sites c.args.here (expr_view z)) ++ faults (exprs_sites c.args.here
+    (exprs_of (map expr_view c.deref-in-Given.result.now)))) c.deref.ensures
+    ∙ ap (λ z. faults (expr_sites c.args.here (expr_view c.in-Given.function.value)) ++ faults
+    (exprs_sites c.args.here (exprs_of (map expr_view z)))) c.deref-in-Given.ensures.value
     ∙ sym (ap (λ l. before c.args.here (link_view l)) c.in-Given.is ∙ ap (before c.args.here) (view.given c.in-Given.function c.in-Given.arguments))))
     c.push_all.ensures
 
 pub push_one_before-returns-in-Composed : goal.push_one_before-returns-in-Composed
 push_one_before-returns-in-Composed t c =
     subst (λ z. OnOk c.push_expr-in-Composed.result (c.push_expr-in-Composed.new.findings.items ≡ z))
-    (ap (λ us. c.args.findings.now.items ++ us) (sym (ap (λ l. before c.args.here (link_view l)) c.in-Composed.is ∙ ap (before c.args.here) (view.composed c.in-Composed.function c.in-Composed.field-1))))
+    (ap (λ us. c.args.findings.now.items ++ us) (ap (λ e. faults (expr_sites c.args.here (expr_view e)))
+    c.deref-in-Composed.ensures ∙ sym (ap (λ l. before c.args.here (link_view l)) c.in-Composed.is ∙ ap
+    (before c.args.here) (view.composed c.in-Composed.function c.in-Composed.field-1))))
     c.push_expr-in-Composed.ensures
 
 pub push_one_before-returns-in-After : goal.push_one_before-returns-in-After
@@ -218,7 +237,9 @@ push_one_before-returns-in-Before t c =
 pub push_one_before-returns-in-Decided : goal.push_one_before-returns-in-Decided
 push_one_before-returns-in-Decided t c =
     subst (λ z. OnOk c.push_expr-in-Decided.result (c.push_expr-in-Decided.new.findings.items ≡ z))
-    (ap (λ us. c.args.findings.now.items ++ us) (sym (ap (λ l. before c.args.here (link_view l)) c.in-Decided.is ∙ ap (before c.args.here) (view.decided c.in-Decided.field-0 c.in-Decided.field-1 c.in-Decided.left))))
+    (ap (λ us. c.args.findings.now.items ++ us) (ap (λ e. faults (expr_sites c.args.here (expr_view e)))
+    c.deref-in-Decided.ensures ∙ sym (ap (λ l. before c.args.here (link_view l)) c.in-Decided.is ∙ ap
+    (before c.args.here) (view.decided c.in-Decided.field-0 c.in-Decided.field-1 c.in-Decided.left))))
     c.push_expr-in-Decided.ensures
 
 pub push_one_after-returns-in-Given : goal.push_one_after-returns-in-Given
@@ -228,7 +249,9 @@ push_one_after-returns-in-Given t c =
 pub push_one_after-returns-in-Composed : goal.push_one_after-returns-in-Composed
 push_one_after-returns-in-Composed t c =
     subst (λ z. OnOk c.push_expr.result (c.push_expr.new.findings.items ≡ z))
-    (ap (λ us. c.args.findings.now.items ++ us) (sym (ap (λ l. after c.args.here (link_view l)) c.in-Composed.is ∙ ap (after c.args.here) (view.composed c.in-Composed.field-0 c.in-Composed.right))))
+    (ap (λ us. c.args.findings.now.items ++ us) (ap (λ e. faults (expr_sites c.args.here (expr_view e)))
+    c.deref.ensures ∙ sym (ap (λ l. after c.args.here (link_view l)) c.in-Composed.is ∙ ap (after c.args.here)
+    (view.composed c.in-Composed.field-0 c.in-Composed.right))))
     c.push_expr.ensures
 
 pub push_one_after-returns-in-After : goal.push_one_after-returns-in-After
@@ -238,7 +261,9 @@ push_one_after-returns-in-After t c =
 pub push_one_after-returns-in-Before : goal.push_one_after-returns-in-Before
 push_one_after-returns-in-Before t c =
     subst (λ z. OnOk c.push_expr-in-Before.result (c.push_expr-in-Before.new.findings.items ≡ z))
-    (ap (λ us. c.args.findings.now.items ++ us) (sym (ap (λ l. after c.args.here (link_view l)) c.in-Before.is ∙ ap (after c.args.here) (view.part_before c.in-Before.field-0 c.in-Before.right))))
+    (ap (λ us. c.args.findings.now.items ++ us) (ap (λ e. faults (expr_sites c.args.here (expr_view e)))
+    c.deref-in-Before.ensures ∙ sym (ap (λ l. after c.args.here (link_view l)) c.in-Before.is ∙ ap (after c.args.here)
+    (view.part_before c.in-Before.field-0 c.in-Before.right))))
     c.push_expr-in-Before.ensures
 
 pub push_one_after-returns-in-Decided : goal.push_one_after-returns-in-Decided
