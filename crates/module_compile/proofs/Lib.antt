@@ -8,5 +8,7 @@ pub mod Resolving
 pub mod Surroundings
 -- which faults of a module stand, by phases
 pub mod Verdicts
+-- what holds of a value that is made by steps
+mod Outcome
 -- interfaces by their places
 pub mod Offering

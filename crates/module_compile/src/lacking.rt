@@ -27,8 +27,7 @@ const LIST: [u16; 4] = [76, 105, 115, 116];
 fn name_of(alloc: Global, units: &[u16]) -> Result<Name, AllocError>
     ensures { IfOk result (λ name. name ≡ units.now) }
 {
-    let mut copy = Vec::with_capacity(alloc, units.len())?;
-    copy.extend_from_slice(units)?;
+    let copy = Vec::from_slice(alloc, units)?;
     Name::new(alloc, Units::from_vec(copy))
 }
 

@@ -9,6 +9,7 @@ mod lacking;
 pub mod laws;
 pub mod made;
 mod offered;
+mod outcomes;
 pub mod phases;
 mod pushing;
 mod seen;

@@ -1,9 +1,10 @@
 //! The phases of text, imports and names.
 
-ghost use Rattle.std.specs.Prelude.{◌≡◌, ◌≤◌, [], length, IfOk};
-ghost use Rattle.elm_parser.specs.Parsed.{IsText};
+ghost use Rattle.std.specs.Prelude.{◌≡◌, ◌≤◌, [], ℕ, List, length, IfOk};
+ghost use Rattle.elm_lexer.specs.View.{IfFault};
+ghost use Rattle.elm_parser.specs.Parsed.{HasTextFault, IsText};
 ghost use Rattle.elm_tree.specs.Turns.{tokens_view};
-ghost use Rattle.module_made.specs.Around.{head_faults};
+ghost use Rattle.module_made.specs.Around.{Around, head_faults};
 ghost use Rattle.module_compile.specs.Phases.{AreClean, Tells};
 ghost use Rattle.module_compile.specs.Settings.{parsed_view};
 ghost use Rattle.module_compile.specs.ModulePhasesView.{around_view};
@@ -82,6 +83,17 @@ fn named_parsed(
     named_in_place(alloc, imports, path, text, parsed)
 }
 
+/// The fault of a text that was not read.
+fn unread(alloc: Global, path: &str, error: TextError<'_>) -> Result<Outcome, AllocError>
+    ensures { (a : Around) (text : List ℕ) → IfFault error.entry (HasTextFault text)
+        → IfOk result (Tells a path.now text) }
+{
+    match error {
+        TextError::NoMemory => Err(AllocError),
+        TextError::Fault(fault) => Ok(Outcome::Bad(text_faults(alloc, path, fault)?)),
+    }
+}
+
 /// What the text `text` of a module means, or all faults of the first of its phases text, imports and names that has
 /// any. `imports` is what the module is compiled in, and `path` is the path of its file, with which its faults are
 /// reported. The error means that memory ran out.
@@ -96,9 +108,6 @@ pub fn named(
 {
     match parse_text(alloc, text) {
         Ok(parsed) => named_parsed(alloc, imports, path, text, &parsed),
-        Err(error) => match error {
-            TextError::NoMemory => Err(AllocError),
-            TextError::Fault(fault) => Ok(Outcome::Bad(text_faults(alloc, path, fault)?)),
-        },
+        Err(error) => unread(alloc, path, error),
     }
 }

@@ -18,6 +18,7 @@ ghost use Rattle.module_compile.specs.Settings.{written_of, known_before, AreSee
 ghost use Rattle.module_compile.specs.ModulePhasesView.{around_view};
 
 use crate::imports::Imports;
+use crate::outcomes::{boxed, put};
 use crate::seen::Seen;
 use canon_env::env::Known;
 use canon_env::exposing::Written;
@@ -47,8 +48,7 @@ impl Imports {
         match self.interfaces.get(&import.home) {
             Some(offered) => {
                 let shown = shown_by(alloc, &import.home, &offered.interface)?;
-                known.push(GivenImport { import, shown })?;
-                Ok(())
+                put(known, GivenImport { import, shown })
             }
             None => Ok(()),
         }
@@ -111,12 +111,14 @@ impl Imports {
         match self.interfaces.get(&read.home) {
             Some(offered) => {
                 let shown = shown_by(alloc, &read.home, &offered.interface)?;
-                seen.push(Seen {
-                    written,
-                    import: read,
-                    shown,
-                })?;
-                Ok(())
+                put(
+                    seen,
+                    Seen {
+                        written,
+                        import: read,
+                        shown,
+                    },
+                )
             }
             None => Ok(()),
         }
@@ -146,10 +148,13 @@ fn push_before<'a>(before: &'a [GivenImport], known: &mut Vec<Known<'a>>) -> Res
         ≡ map known_view known.old.items ++ map given_view before.entry.now) }
 {
     for given in before {
-        known.push(Known {
-            import: &given.import,
-            shown: &given.shown,
-        })?;
+        put(
+            known,
+            Known {
+                import: &given.import,
+                shown: &given.shown,
+            },
+        )?;
     }
     Ok(())
 }
@@ -160,10 +165,13 @@ fn push_read<'a>(seen: &'a [Seen<'a>], known: &mut Vec<Known<'a>>) -> Result<(),
         ≡ map known_view known.old.items ++ map seen_known seen.entry.now) }
 {
     for one in seen {
-        known.push(Known {
-            import: &one.import,
-            shown: &one.shown,
-        })?;
+        put(
+            known,
+            Known {
+                import: &one.import,
+                shown: &one.shown,
+            },
+        )?;
     }
     Ok(())
 }
@@ -190,10 +198,13 @@ fn all_written<'a>(alloc: Global, seen: &'a [Seen<'a>]) -> Result<Vec<Written<'a
 {
     let mut written = Vec::with_capacity(alloc, seen.len())?;
     for one in seen {
-        written.push(Written {
-            import: one.written,
-            shown: &one.shown,
-        })?;
+        put(
+            &mut written,
+            Written {
+                import: one.written,
+                shown: &one.shown,
+            },
+        )?;
     }
     Ok(written)
 }
@@ -208,8 +219,10 @@ fn resolved_in(
     ensures { IfOk result (λ r. IsResolved (setting_view (tokens_view parsed.now.tokens.items) setting.now)
         (parsed_view parsed.now) r.value) }
 {
-    let resolved = resolve(alloc, &parsed.tokens, setting, &parsed.module)?;
-    Ok(Box::new(alloc, resolved)?)
+    boxed(
+        alloc,
+        resolve(alloc, &parsed.tokens, setting, &parsed.module),
+    )
 }
 
 impl Imports {
