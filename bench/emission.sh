@@ -10,22 +10,22 @@
 # `elm` is installed, its output of the same program is timed too, each program three times in turn, and the least time
 # is printed.
 #
-# The program is emit_cases, which this builds; PROGRAM names one that is built already.
+# The program is elmc, which this builds; PROGRAM names one that is built already. The modules whose `case` becomes a
+# tree have no `main`, and that is said.
 set -eu
 
 root="$(cd "$(dirname "${BASH_SOURCE[0]}")/.." && pwd)"
-program="${PROGRAM:-$root/crates/emit_cases/out/emit_cases}"
-if [ -z "${PROGRAM:-}" ]; then
-    (cd "$root/crates/emit_cases" && rt run -- lines) >/dev/null 2>&1 </dev/null || true
-fi
-[ -x "$program" ] || { echo "emit_cases is not built" >&2; exit 1; }
+program="${PROGRAM:-$root/elmc}"
+"$program" >/dev/null 2>&1 </dev/null || true
 folder="${FOLDER:-$(mktemp -d)}"
 [ -n "${FOLDER:-}" ] || trap 'rm -rf "$folder"' EXIT
 cd "$folder"
 ulimit -s 8192
+project='{ "type": "application", "elm-version": "0.19.1", "source-directories": ["src"] }'
 
 begin() { # NAME
     mkdir -p "$1/src"
+    echo "$project" >"$1/elm.json"
     printf 'module Main exposing (..)\n\n' >"$1/src/Main.elm"
 }
 
@@ -34,11 +34,11 @@ emit() { # NAME
 import resource, subprocess, sys, time
 program, name = sys.argv[1:]
 start = time.monotonic()
-done = subprocess.run([program, "lines", name], stdout=subprocess.PIPE)
+done = subprocess.run([program, "make", "src/Main.elm", "--output=out.js"], cwd=name, stderr=subprocess.PIPE)
 seconds = time.monotonic() - start
 used = resource.getrusage(resource.RUSAGE_CHILDREN)
 print(f"{name}: {used.ru_maxrss // 1024} MiB, {seconds:.3f} s, of the processor {used.ru_utime + used.ru_stime:.3f} s,", end=" ")
-print(f"status {done.returncode}, {len(done.stdout)} bytes", flush=True)
+print(f"status {done.returncode}:", done.stderr.decode()[:80].strip(), flush=True)
 PYTHON
 }
 
@@ -84,6 +84,7 @@ command -v node >/dev/null || { echo "node is missing"; exit 0; }
 
 worker() { # NAME; the definition of `answer` is read
     mkdir -p "$1/src"
+    echo "$project" >"$1/elm.json"
     cat >"$1/src/Main.elm" <<'ELM'
 port module Main exposing (main)
 
@@ -178,7 +179,8 @@ setTimeout(() => console.log(`${least.toFixed(1)} ms, ${[...new Set(sent)].join(
 JS
 
 for name in loop folds turns; do
-    "$program" output "$name" >"$name.js"
+    (cd "$name" && "$program" make src/Main.elm --output="out.js") >/dev/null
+    mv "$name/out.js" "$name.js"
     echo "$name: $(node time.js "$name.js")"
     if command -v elm >/dev/null; then
         cat >"$name/elm.json" <<'JSON'

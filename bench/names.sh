@@ -5,36 +5,35 @@
 # the greatest memory and the time, in which the texts are read and the core modules are resolved too: the first line
 # says what an empty module takes.
 #
-# The program is elm_cases, which this builds; PROGRAM names one that is built already.
+# The program is elmc, which this builds; PROGRAM names one that is built already. The modules have no `main`, so where
+# nothing else is wrong with one, that is said.
 set -eu
 
 root="$(cd "$(dirname "${BASH_SOURCE[0]}")/.." && pwd)"
-program="${PROGRAM:-$root/crates/elm_cases/out/elm_cases}"
-if [ -z "${PROGRAM:-}" ]; then
-    (cd "$root/crates/elm_cases" && rt run -- read) >/dev/null 2>&1 </dev/null || true
-fi
-[ -x "$program" ] || { echo "elm_cases is not built" >&2; exit 1; }
+program="${PROGRAM:-$root/elmc}"
+"$program" >/dev/null 2>&1 </dev/null || true
 folder="$(mktemp -d)"
 trap 'rm -rf "$folder"' EXIT
 cd "$folder"
 ulimit -s 8192
-cp -r "$root/crates/elm_cases/data/core" core
+project='{ "type": "application", "elm-version": "0.19.1", "source-directories": ["src"] }'
 
 resolve() { # NAME
     python3 - "$program" "$1" <<'PYTHON'
 import resource, subprocess, sys, time
 program, name = sys.argv[1:]
 start = time.monotonic()
-done = subprocess.run([program, "names", name], stdout=subprocess.PIPE)
+done = subprocess.run([program, "make", "src/Main.elm", "--output=out.js"], cwd=name, stderr=subprocess.PIPE)
 seconds = time.monotonic() - start
 used = resource.getrusage(resource.RUSAGE_CHILDREN)
 print(f"{name}: {used.ru_maxrss // 1024} MiB, {seconds:.2f} s, of the processor {used.ru_utime + used.ru_stime:.2f} s,", end=" ")
-print(f"status {done.returncode}:", done.stdout.decode()[:80].strip(), flush=True)
+print(f"status {done.returncode}:", done.stderr.decode()[:80].strip(), flush=True)
 PYTHON
 }
 
 begin() { # NAME
     mkdir -p "$1/src"
+    echo "$project" >"$1/elm.json"
     printf 'module Main exposing (..)\n\n' >"$1/src/Main.elm"
 }
 
@@ -44,7 +43,7 @@ resolve empty
 
 for count in 10000 20000; do
     begin "definitions_$count"
-    awk -v n="$count" 'BEGIN { for (i = 0; i < n; i++) printf "\nf%d x =\n    f%d (x + %d)\n\n", i, (i + 1) % n, i }' >>"definitions_$count/src/Main.elm"
+    awk -v n="$count" 'BEGIN { for (i = 0; i < n; i++) printf "\nf%d : Int -> Int\nf%d x =\n    f%d (x + %d)\n\n", i, i, (i + 1) % n, i }' >>"definitions_$count/src/Main.elm"
     resolve "definitions_$count"
 done
 

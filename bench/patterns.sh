@@ -5,36 +5,35 @@
 # the time, in which the texts are read and the names of the core modules are resolved too: the first line says what an
 # empty module takes.
 #
-# The program is elm_cases, which this builds; PROGRAM names one that is built already.
+# The program is elmc, which this builds; PROGRAM names one that is built already. The modules have no `main`, so where
+# nothing else is wrong with one, that is said.
 set -eu
 
 root="$(cd "$(dirname "${BASH_SOURCE[0]}")/.." && pwd)"
-program="${PROGRAM:-$root/crates/elm_cases/out/elm_cases}"
-if [ -z "${PROGRAM:-}" ]; then
-    (cd "$root/crates/elm_cases" && rt run -- read) >/dev/null 2>&1 </dev/null || true
-fi
-[ -x "$program" ] || { echo "elm_cases is not built" >&2; exit 1; }
+program="${PROGRAM:-$root/elmc}"
+"$program" >/dev/null 2>&1 </dev/null || true
 folder="${FOLDER:-$(mktemp -d)}"
 [ -n "${FOLDER:-}" ] || trap 'rm -rf "$folder"' EXIT
 cd "$folder"
 ulimit -s 8192
-cp -r "$root/crates/elm_cases/data/core" core
+project='{ "type": "application", "elm-version": "0.19.1", "source-directories": ["src"] }'
 
 check() { # NAME
     python3 - "$program" "$1" <<'PYTHON'
 import resource, subprocess, sys, time
 program, name = sys.argv[1:]
 start = time.monotonic()
-done = subprocess.run([program, "patterns", name], stdout=subprocess.PIPE)
+done = subprocess.run([program, "make", "src/Main.elm", "--output=out.js"], cwd=name, stderr=subprocess.PIPE)
 seconds = time.monotonic() - start
 used = resource.getrusage(resource.RUSAGE_CHILDREN)
 print(f"{name}: {used.ru_maxrss // 1024} MiB, {seconds:.2f} s, of the processor {used.ru_utime + used.ru_stime:.2f} s,", end=" ")
-print(f"status {done.returncode}:", done.stdout.decode()[:120].strip(), flush=True)
+print(f"status {done.returncode}:", done.stderr.decode()[:120].strip(), flush=True)
 PYTHON
 }
 
 begin() { # NAME
     mkdir -p "$1/src"
+    echo "$project" >"$1/elm.json"
     printf 'module Main exposing (..)\n\n' >"$1/src/Main.elm"
 }
 

@@ -7,35 +7,35 @@
 # in which the modules are compiled whole, and those of the core library too: the first line says what an empty module
 # takes.
 #
-# The program is type_cases, which this builds; PROGRAM names one that is built already.
+# The program is elmc, which this builds; PROGRAM names one that is built already. The modules have no `main`, so where
+# nothing else is wrong with one, that is said.
 set -eu
 
 root="$(cd "$(dirname "${BASH_SOURCE[0]}")/.." && pwd)"
-program="${PROGRAM:-$root/crates/type_cases/out/type_cases}"
-if [ -z "${PROGRAM:-}" ]; then
-    (cd "$root/crates/type_cases" && rt run --) >/dev/null 2>&1 </dev/null || true
-fi
-[ -x "$program" ] || { echo "type_cases is not built" >&2; exit 1; }
+program="${PROGRAM:-$root/elmc}"
+"$program" >/dev/null 2>&1 </dev/null || true
 folder="$(mktemp -d)"
 trap 'rm -rf "$folder"' EXIT
 cd "$folder"
 ulimit -s 8192
+project='{ "type": "application", "elm-version": "0.19.1", "source-directories": ["src"] }'
 
 infer() { # NAME
     python3 - "$program" "$1" <<'PYTHON'
 import resource, subprocess, sys, time
 program, name = sys.argv[1:]
 start = time.monotonic()
-done = subprocess.run([program, name], stdout=subprocess.PIPE)
+done = subprocess.run([program, "make", "src/Main.elm", "--output=out.js"], cwd=name, stderr=subprocess.PIPE)
 seconds = time.monotonic() - start
 used = resource.getrusage(resource.RUSAGE_CHILDREN)
 print(f"{name}: {used.ru_maxrss // 1024} MiB, {seconds:.2f} s, of the processor {used.ru_utime + used.ru_stime:.2f} s,", end=" ")
-print(f"status {done.returncode}:", done.stdout.decode()[:80].strip(), flush=True)
+print(f"status {done.returncode}:", done.stderr.decode()[:80].strip(), flush=True)
 PYTHON
 }
 
 begin() { # NAME
     mkdir -p "$1/src"
+    echo "$project" >"$1/elm.json"
     printf 'module Main exposing (x)\n\n' >"$1/src/Main.elm"
 }
 

@@ -1,7 +1,7 @@
-// Compares the lines that the crates command_cases and build_cases expect of runs with what node prints for the same
-// outputs: node worked.mjs. Programs are built by `elmc make` (PROGRAM names an elmc that is built already), and an
-// output that is written by hand is taken as it is. Each is run by run_in_node.mjs. Runs that end unsafe or out of
-// fuel, and such as are refused, are left out, since node knows nothing of these.
+// Compares the lines that the crates command_cases, build_cases and phase_cases expect of runs with what node prints
+// for the same outputs: node worked.mjs. Programs are built by `elmc make` (PROGRAM names an elmc that is built
+// already), and an output that is written by hand is taken as it is. Each is run by run_in_node.mjs. Runs that end
+// unsafe or out of fuel, and such as are refused, are left out, since node knows nothing of these.
 import { spawnSync } from "node:child_process";
 import { appendFileSync, mkdirSync, mkdtempSync, readFileSync, rmSync, writeFileSync } from "node:fs";
 import { tmpdir } from "node:os";
@@ -55,6 +55,7 @@ const runScript = (crate, name, commands) => {
     },
     "-": () => {},
     "?": () => {},
+    "=": () => {},
     "!": () => {},
     "|": (line) => add(`${line.slice(1)}\n`),
     ":": (line) => add(line.slice(1)),
@@ -77,7 +78,7 @@ const runScript = (crate, name, commands) => {
 };
 
 try {
-  for (const crate of ["command_cases", "build_cases"]) {
+  for (const crate of ["command_cases", "build_cases", "phase_cases"]) {
     const commands = commandsOf(crate);
     const names = readFileSync(join(root, "crates", crate, "args"), "utf8").split("\n");
     for (const name of names) if (name !== "") runScript(crate, name, commands);

@@ -30,6 +30,8 @@ pub enum Line<'a> {
     Command(&'a str),
     /// A question for a file.
     Question(&'a str),
+    /// A question for the lines of a file that begin with a text.
+    Lines(&'a str, &'a str),
 }
 
 /// What a line says, or none if it is of no form.
@@ -56,6 +58,7 @@ fn words_of(line: &str) -> Option<Line<'_>> {
         Some(("+", path)) => Some(Line::Made(path)),
         Some(("-", path)) => Some(Line::Absent(path)),
         Some(("?", path)) => Some(Line::Question(path)),
+        Some(("=", rest)) => lines(rest),
         Some(("!", rest)) => failing(rest),
         _ => None,
     }
@@ -68,6 +71,12 @@ fn repeated(rest: &str) -> Option<Line<'_>> {
         Ok(count) => Some(Line::Repeated(count, text)),
         Err(_) => None,
     }
+}
+
+/// A question for some lines of a file: its path, and what they begin with.
+fn lines(rest: &str) -> Option<Line<'_>> {
+    let (path, start) = rest.split_once(' ')?;
+    Some(Line::Lines(path, start))
 }
 
 /// A call that fails: the kind and the number.

@@ -23,6 +23,16 @@ pub fn put_text(page: &mut Vec<u8>, mark: &[u8], text: &[u8]) -> Result<(), Allo
     }
 }
 
+/// Adds the lines of a text that begin with `start`, each after `|`.
+pub fn put_lines(page: &mut Vec<u8>, text: &[u8], start: &[u8]) -> Result<(), AllocError> {
+    for line in text.split(|byte| *byte == b'\n') {
+        if line.starts_with(start) {
+            put_piece(page, b"", b"|", line)?;
+        }
+    }
+    Ok(())
+}
+
 /// Adds a line of three parts.
 fn put_piece(page: &mut Vec<u8>, mark: &[u8], form: &[u8], text: &[u8]) -> Result<(), AllocError> {
     page.extend_from_slice(mark)?;

@@ -10,7 +10,7 @@
 //!   its calls on standard output and standard error.
 //! - `$ WORDS` runs the command of these words, with one space between two, over the files that the case has named.
 //!   `$` alone stands for no words. What the command leaves in these files stays for the lines that follow.
-//! - `? PATH` asks for a file that the case has named.
+//! - `? PATH` asks for a file that the case has named. `= PATH TEXT` asks for its lines that begin with TEXT.
 //!
 //! Titles, commands and questions are printed. After a command stand its status and what it put on standard output (`1`)
 //! and standard error (`2`), and after a question what the file holds, or that it is absent. These texts are written by
@@ -19,7 +19,7 @@
 
 use crate::case::{Case, Ran};
 use crate::line::{Line, line_of};
-use crate::page::{put_line, put_text};
+use crate::page::{put_line, put_lines, put_text};
 use elm_files::{FileError, Files, Got, Sink};
 use std::alloc::{AllocError, Global};
 use std::str::from_utf8;
@@ -132,6 +132,10 @@ fn page_of<R: Threads + Wait + Sync>(
             put_line(&mut page, text.as_bytes())?;
             put_file(&mut page, bytes, fixed)?;
         }
+        Line::Lines(path, start) => {
+            put_line(&mut page, text.as_bytes())?;
+            put_some(&mut page, case.file(path), start)?;
+        }
     }
     Ok(page)
 }
@@ -157,6 +161,15 @@ fn put_file(page: &mut Vec<u8>, bytes: Option<&[u8]>, fixed: &Fixed) -> Result<(
             }
             None => put_text(page, b"", bytes),
         },
+    }
+}
+
+/// Adds the lines of a file that begin with `start`.
+fn put_some(page: &mut Vec<u8>, file: Option<Option<&[u8]>>, start: &str) -> Result<(), FileError> {
+    match file {
+        None => Err(FileError::Failed),
+        Some(None) => Ok(put_line(page, b"absent")?),
+        Some(Some(bytes)) => Ok(put_lines(page, bytes, start.as_bytes())?),
     }
 }
 

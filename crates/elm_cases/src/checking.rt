@@ -3,7 +3,7 @@
 ghost use Rattle.std.specs.Prelude.{◌≤◌, length};
 
 use crate::modules::module_text;
-use elm_lexer::{Kind, TextError, TextFault, Token};
+use elm_lexer::{Kind, TextError, Token};
 use elm_parser::{Parsed, parse_text};
 use std::alloc::{AllocError, Global};
 
@@ -11,7 +11,8 @@ use std::alloc::{AllocError, Global};
 const MOST: usize = 4194304;
 
 /// What was found of a text.
-pub enum Outcome<'a> {
+#[derive(Clone, Copy)]
+pub enum Outcome {
     /// The text of its tree has the same tokens.
     Same,
     /// The text of its tree has the same tokens but for so many parentheses, which are not needed.
@@ -22,67 +23,109 @@ pub enum Outcome<'a> {
     OtherTree,
     /// The text of its tree is not read, or is too long.
     Unreadable,
-    /// The text has this fault.
-    Fault(TextFault<'a>),
+    /// The text is not read.
+    Refused,
 }
 
-/// Reads a text.
-pub fn is_read<'a>(alloc: Global, text: &'a [u8]) -> Result<Outcome<'a>, AllocError>
+/// A text that was read.
+#[derive(Drop)]
+struct Reading {
+    /// How many tokens it has.
+    count: usize,
+    /// The tokens, one a line.
+    words: Vec<u8>,
+    /// The same without parentheses.
+    bare: Vec<u8>,
+    /// The text of its tree.
+    printed: Vec<u8>,
+}
+
+impl Reading {
+    /// What is told of a text that was read.
+    fn of(alloc: Global, parsed: &Parsed<'_>) -> Result<Reading, AllocError> {
+        let printed = module_text(alloc, &parsed.tokens, &parsed.module)?;
+        Ok(Reading {
+            count: parsed.tokens.len(),
+            words: words(alloc, &parsed.tokens, true)?,
+            bare: words(alloc, &parsed.tokens, false)?,
+            printed,
+        })
+    }
+
+    /// Nothing is told.
+    fn empty(alloc: Global) -> Reading {
+        Reading {
+            count: 0,
+            words: Vec::new(alloc),
+            bare: Vec::new(alloc),
+            printed: Vec::new(alloc),
+        }
+    }
+
+    /// What is told of a text that was read: nothing, unless `prints` says so.
+    fn told(alloc: Global, parsed: &Parsed<'_>, prints: bool) -> Result<Reading, AllocError> {
+        if prints {
+            Reading::of(alloc, parsed)
+        } else {
+            Ok(Reading::empty(alloc))
+        }
+    }
+}
+
+/// Reads a text. None: it has a fault.
+fn read_text(alloc: Global, text: &[u8], prints: bool) -> Result<Option<Reading>, AllocError>
     requires { length text.now ≤ 4194304 }
 {
     match parse_text(alloc, text) {
-        Ok(_) => Ok(Outcome::Same),
-        Err(TextError::Fault(fault)) => Ok(Outcome::Fault(fault)),
+        Ok(parsed) => Ok(Some(Reading::told(alloc, &parsed, prints)?)),
+        Err(TextError::Fault(_)) => Ok(None),
         Err(TextError::NoMemory) => Err(AllocError),
+    }
+}
+
+/// Reads a text.
+pub fn is_read(alloc: Global, text: &[u8]) -> Result<Outcome, AllocError>
+    requires { length text.now ≤ 4194304 }
+{
+    match read_text(alloc, text, false)? {
+        Some(_) => Ok(Outcome::Same),
+        None => Ok(Outcome::Refused),
     }
 }
 
 /// Reads a text, prints its tree, reads that and prints it again. The printed text must have the tokens of the text,
 /// and the second printed text must be the same as the first.
-pub fn checked<'a>(alloc: Global, text: &'a [u8]) -> Result<Outcome<'a>, AllocError>
+pub fn checked(alloc: Global, text: &[u8]) -> Result<Outcome, AllocError>
     requires { length text.now ≤ 4194304 }
 {
-    match parse_text(alloc, text) {
-        Ok(parsed) => compared(alloc, &parsed),
-        Err(TextError::Fault(fault)) => Ok(Outcome::Fault(fault)),
-        Err(TextError::NoMemory) => Err(AllocError),
+    match read_text(alloc, text, true)? {
+        Some(first) => printed_outcome(alloc, &first),
+        None => Ok(Outcome::Refused),
     }
 }
 
 /// The outcome of a text that was read.
-fn compared<'a>(alloc: Global, parsed: &Parsed<'_>) -> Result<Outcome<'a>, AllocError> {
-    let printed = module_text(alloc, &parsed.tokens, &parsed.module)?;
-    if printed.len() > MOST {
+fn printed_outcome(alloc: Global, first: &Reading) -> Result<Outcome, AllocError> {
+    if first.printed.len() > MOST {
         return Ok(Outcome::Unreadable);
     }
-    match parse_text(alloc, &printed) {
-        Ok(again) => {
-            let twice = module_text(alloc, &again.tokens, &again.module)?;
-            if twice == printed {
-                words_compared(alloc, &parsed.tokens, &again.tokens)
-            } else {
-                Ok(Outcome::OtherTree)
-            }
-        }
-        Err(TextError::Fault(_)) => Ok(Outcome::Unreadable),
-        Err(TextError::NoMemory) => Err(AllocError),
+    match read_text(alloc, &first.printed, true)? {
+        Some(second) => Ok(compared(first, &second)),
+        None => Ok(Outcome::Unreadable),
     }
 }
 
-/// The outcome by the tokens of a text and those of its tree's text.
-fn words_compared<'a>(
-    alloc: Global,
-    tokens: &[Token<'_>],
-    printed: &[Token<'_>],
-) -> Result<Outcome<'a>, AllocError> {
-    if words(alloc, tokens, true)? == words(alloc, printed, true)? {
-        return Ok(Outcome::Same);
+/// The outcome of a text, of which `second` is read of the text of the tree of `first`.
+fn compared(first: &Reading, second: &Reading) -> Outcome {
+    if second.printed != first.printed {
+        Outcome::OtherTree
+    } else if second.words == first.words {
+        Outcome::Same
+    } else if second.bare == first.bare {
+        Outcome::FewerBrackets(first.count.saturating_sub(second.count))
+    } else {
+        Outcome::OtherTokens
     }
-    if words(alloc, tokens, false)? == words(alloc, printed, false)? {
-        let fewer = tokens.len().saturating_sub(printed.len());
-        return Ok(Outcome::FewerBrackets(fewer));
-    }
-    Ok(Outcome::OtherTokens)
 }
 
 /// The texts of the tokens, one a line, with parentheses or without.

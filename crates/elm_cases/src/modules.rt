@@ -2,7 +2,7 @@
 
 use crate::exprs::put_definition;
 use crate::page::Page;
-use crate::types::{put_arguments, put_type};
+use crate::types::{put_named, put_type};
 use elm_lexer::Token;
 use elm_tree::tree::{Constructor, Declaration, Exposed, Exposing, Header, Import, Module};
 use std::alloc::{AllocError, Global};
@@ -104,8 +104,7 @@ fn put_constructors(
 ) -> Result<(), AllocError> {
     for (place, constructor) in constructors.iter().enumerate() {
         page.between(place, " | ")?;
-        page.word(constructor.name)?;
-        put_arguments(page, &constructor.arguments)?;
+        put_named(page, constructor.name, &constructor.arguments)?;
     }
     Ok(())
 }

@@ -4,6 +4,7 @@ use elm_lexer::{Kind, Token};
 use elm_tree::tree::Word;
 use elm_tree::turns::text_at;
 use std::alloc::{AllocError, Global};
+use std::marker::Model;
 
 /// The text of a tree up to some place in it.
 #[derive(Drop)]
@@ -12,6 +13,14 @@ pub struct Page<'t, 'a> {
     text: Vec<u8>,
     /// How many blocks are open: what stands in them begins after so many spaces.
     depth: usize,
+}
+
+impl<'t, 'a> Model for Page<'t, 'a> {
+    ghost use Rattle.std.specs.Prelude.{ℕ, List};
+
+    ghost Value = { List ℕ };
+
+    ghost view = { λ p. p.text.items };
 }
 
 impl<'t, 'a> Page<'t, 'a> {
@@ -85,7 +94,7 @@ impl<'t, 'a> Page<'t, 'a> {
     }
 
     /// Writes words with commas between them.
-    pub fn listed(&mut self, words: &[Word]) -> Result<(), AllocError> {
+    fn listed(&mut self, words: &[Word]) -> Result<(), AllocError> {
         for (place, word) in words.iter().enumerate() {
             self.between(place, ", ")?;
             self.word(*word)?;
@@ -96,6 +105,48 @@ impl<'t, 'a> Page<'t, 'a> {
     /// Writes a text before all but the first of some things.
     pub fn between(&mut self, place: usize, text: &str) -> Result<(), AllocError> {
         if place == 0 { Ok(()) } else { self.put(text) }
+    }
+
+    /// Writes words one after another.
+    pub fn joined(&mut self, words: &[Word]) -> Result<(), AllocError> {
+        for word in words {
+            self.word(*word)?;
+        }
+        Ok(())
+    }
+
+    /// Writes words with commas between them, in braces.
+    pub fn braced(&mut self, words: &[Word]) -> Result<(), AllocError> {
+        self.put("{ ")?;
+        self.listed(words)?;
+        self.put(" }")
+    }
+
+    /// Writes two words.
+    pub fn both(&mut self, first: Word, second: Word) -> Result<(), AllocError> {
+        self.word(first)?;
+        self.word(second)
+    }
+
+    /// Writes the base of a record and a text after it, if it has one.
+    pub fn base(&mut self, base: Option<Word>, text: &str) -> Result<(), AllocError> {
+        match base {
+            Some(base) => {
+                self.word(base)?;
+                self.put(text)
+            }
+            None => Ok(()),
+        }
+    }
+
+    /// Opens a bracket, unless what follows stands bare.
+    pub fn open_bracket(&mut self, bare: bool) -> Result<(), AllocError> {
+        if bare { Ok(()) } else { self.put("(") }
+    }
+
+    /// Closes a bracket, unless what it is about stands bare.
+    pub fn close_bracket(&mut self, bare: bool) -> Result<(), AllocError> {
+        if bare { Ok(()) } else { self.put(")") }
     }
 
     /// Whether a word is an operator.

@@ -1,21 +1,21 @@
 //! Types as texts.
 
 use crate::page::Page;
-use elm_tree::tree::{FieldType, TypeTree};
+use elm_tree::tree::{FieldType, TypeTree, Word};
 use std::alloc::AllocError;
 
-/// Whether a type stands as an argument without brackets.
-fn is_atom(tree: &TypeTree) -> bool {
-    match tree {
-        TypeTree::Named(_, arguments) => arguments.is_empty(),
-        TypeTree::Function(_) => false,
-        _ => true,
-    }
-}
+/// What stands as an argument without brackets.
+const ATOM: u8 = 0;
+/// What stands beside an arrow without brackets.
+const OPERAND: u8 = 1;
 
-/// Whether a type stands beside an arrow without brackets.
-fn is_operand(tree: &TypeTree) -> bool {
-    !matches!(tree, TypeTree::Function(_))
+/// How loosely the parts of a type hang together.
+fn looseness(tree: &TypeTree) -> u8 {
+    match tree {
+        TypeTree::Named(_, arguments) => { if arguments.len() == 0 { ATOM } else { OPERAND } }
+        TypeTree::Function(_) => 2,
+        _ => ATOM,
+    }
 }
 
 /// Writes a type.
@@ -23,73 +23,69 @@ fn is_operand(tree: &TypeTree) -> bool {
 pub fn put_type(page: &mut Page<'_, '_>, tree: &TypeTree) -> Result<(), AllocError> {
     match tree {
         TypeTree::Variable(name) => page.word(*name),
-        TypeTree::Named(name, arguments) => {
-            page.word(*name)?;
-            put_arguments(page, arguments)
-        }
+        TypeTree::Named(name, arguments) => put_named(page, *name, arguments),
         TypeTree::Function(types) => put_arrows(page, types),
         TypeTree::Tuple(types) => put_tuple(page, types),
-        TypeTree::Record(base, fields) => {
-            page.put("{")?;
-            if let Some(base) = base {
-                page.put(" ")?;
-                page.word(*base)?;
-                page.put(" |")?;
-            }
-            put_fields(page, fields)?;
-            page.put(" }")
-        }
+        TypeTree::Record(base, fields) => put_record(page, *base, fields),
     }
 }
 
-/// Writes a type, in brackets unless it is bare.
+/// Writes a type, in brackets if it is looser than `most`.
 #[cycle(types)]
-fn put_part(page: &mut Page<'_, '_>, tree: &TypeTree, bare: bool) -> Result<(), AllocError> {
-    if bare {
-        return put_type(page, tree);
-    }
-    page.put("(")?;
+fn put_part(page: &mut Page<'_, '_>, tree: &TypeTree, most: u8) -> Result<(), AllocError> {
+    let bare = looseness(tree) <= most;
+    page.open_bracket(bare)?;
     put_type(page, tree)?;
-    page.put(")")
+    page.close_bracket(bare)
 }
 
-/// Writes arguments with a space before each.
+/// Writes a name, and arguments with a space before each.
 #[cycle(types)]
-pub fn put_arguments(page: &mut Page<'_, '_>, types: &[TypeTree]) -> Result<(), AllocError> {
-    for tree in types {
+pub fn put_named(
+    page: &mut Page<'_, '_>,
+    name: Word,
+    types: &Vec<TypeTree>,
+) -> Result<(), AllocError> {
+    page.word(name)?;
+    for place in 0..types.len() {
         page.put(" ")?;
-        put_part(page, tree, is_atom(tree))?;
+        put_part(page, &types[place], ATOM)?;
     }
     Ok(())
 }
 
 #[cycle(types)]
-fn put_arrows(page: &mut Page<'_, '_>, types: &[TypeTree]) -> Result<(), AllocError> {
-    for (place, tree) in types.iter().enumerate() {
+fn put_arrows(page: &mut Page<'_, '_>, types: &Vec<TypeTree>) -> Result<(), AllocError> {
+    for place in 0..types.len() {
         page.between(place, " -> ")?;
-        put_part(page, tree, is_operand(tree))?;
+        put_part(page, &types[place], OPERAND)?;
     }
     Ok(())
 }
 
 #[cycle(types)]
-fn put_tuple(page: &mut Page<'_, '_>, types: &[TypeTree]) -> Result<(), AllocError> {
+fn put_tuple(page: &mut Page<'_, '_>, types: &Vec<TypeTree>) -> Result<(), AllocError> {
     page.put("(")?;
-    for (place, tree) in types.iter().enumerate() {
+    for place in 0..types.len() {
         page.between(place, ", ")?;
-        put_type(page, tree)?;
+        put_type(page, &types[place])?;
     }
     page.put(")")
 }
 
 #[cycle(types)]
-fn put_fields(page: &mut Page<'_, '_>, fields: &[FieldType]) -> Result<(), AllocError> {
-    for (place, field) in fields.iter().enumerate() {
-        page.between(place, ",")?;
-        page.put(" ")?;
-        page.word(field.name)?;
+fn put_record(
+    page: &mut Page<'_, '_>,
+    base: Option<Word>,
+    fields: &Vec<FieldType>,
+) -> Result<(), AllocError> {
+    page.put("{ ")?;
+    page.base(base, " | ")?;
+    for place in 0..fields.len() {
+        page.between(place, ", ")?;
+        page.word(fields[place].name)?;
         page.put(" : ")?;
-        put_type(page, &field.field_type)?;
+        put_type(page, &fields[place].field_type)?;
     }
-    Ok(())
+    page.put(" }")
 }

@@ -1,0 +1,4 @@
+module AccessInt exposing (..)
+
+f =
+    (\n -> n.x) 1

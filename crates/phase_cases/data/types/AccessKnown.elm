@@ -1,0 +1,8 @@
+module AccessKnown exposing (..)
+
+p =
+    { x = 1 }
+
+
+f =
+    p.y

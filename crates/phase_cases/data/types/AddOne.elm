@@ -1,0 +1,5 @@
+module AddOne exposing (..)
+
+g : number -> number
+g x =
+    x + 1

@@ -1,0 +1,5 @@
+module AnnotationArity exposing (..)
+
+f : Int
+f x =
+    x

@@ -1,0 +1,5 @@
+module AppendRigid exposing (..)
+
+f : appendable -> appendable
+f x =
+    x ++ [ 1 ]

@@ -1,0 +1,4 @@
+module AsPattern exposing (..)
+
+f (( a, b ) as p) =
+    ( p, a )

@@ -1,0 +1,4 @@
+module Brackets exposing (..)
+
+f =
+    (+)

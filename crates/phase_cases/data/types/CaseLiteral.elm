@@ -1,0 +1,12 @@
+module CaseLiteral exposing (..)
+
+f x =
+    case x of
+        1 ->
+            "a"
+
+        'b' ->
+            "b"
+
+        _ ->
+            ""

@@ -1,0 +1,9 @@
+module CaseSubject exposing (..)
+
+f n =
+    case n + 1 of
+        "a" ->
+            1
+
+        _ ->
+            2

@@ -1,0 +1,4 @@
+module Chars exposing (..)
+
+f =
+    'a' < "a"

@@ -1,0 +1,4 @@
+module ClassNames exposing (..)
+
+f x y =
+    ( x + 1, y + 1, x < x )

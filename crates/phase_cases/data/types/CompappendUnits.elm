@@ -1,0 +1,8 @@
+module CompappendUnits exposing (..)
+
+f a b =
+    ( a < b, a ++ b )
+
+
+x =
+    f [ () ] []

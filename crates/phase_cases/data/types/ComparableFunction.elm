@@ -1,0 +1,4 @@
+module ComparableFunction exposing (..)
+
+f =
+    List.sort [ \x -> x ]

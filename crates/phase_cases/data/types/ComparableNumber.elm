@@ -1,0 +1,5 @@
+module ComparableNumber exposing (..)
+
+f : comparable -> comparable -> comparable
+f a b =
+    a + b

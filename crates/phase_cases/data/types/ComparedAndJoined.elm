@@ -1,0 +1,4 @@
+module ComparedAndJoined exposing (..)
+
+f a b =
+    ( a < b, a ++ b )

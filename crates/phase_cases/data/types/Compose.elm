@@ -1,0 +1,4 @@
+module Compose exposing (..)
+
+f =
+    String.length >> (\n -> n + 1)

@@ -1,0 +1,4 @@
+module Cons exposing (..)
+
+f =
+    (::)

@@ -1,0 +1,9 @@
+module ConsPattern exposing (..)
+
+f xs =
+    case xs of
+        x :: "a" ->
+            x
+
+        _ ->
+            0

@@ -1,0 +1,5 @@
+module ConstantOfVariable exposing (..)
+
+f : a -> a
+f x =
+    1

@@ -1,0 +1,8 @@
+module DestructureBad exposing (..)
+
+f =
+    let
+        ( a, b ) =
+            [ 1 ]
+    in
+    a

@@ -1,0 +1,9 @@
+module Escape exposing (..)
+
+f x =
+    let
+        g : a -> a
+        g y =
+            x
+    in
+    g

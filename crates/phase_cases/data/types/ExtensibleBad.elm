@@ -1,0 +1,5 @@
+module ExtensibleBad exposing (..)
+
+f : { a | x : Int } -> { a | x : Int, y : Int }
+f r =
+    r

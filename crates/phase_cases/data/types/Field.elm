@@ -1,0 +1,4 @@
+module Field exposing (..)
+
+ok =
+    .x { x = 1, y = 2 }

@@ -1,0 +1,4 @@
+module FieldMissing exposing (..)
+
+bad =
+    .z { x = 1, y = 2 }

@@ -1,0 +1,4 @@
+module FieldOrder exposing (..)
+
+f r =
+    r.b + r.a

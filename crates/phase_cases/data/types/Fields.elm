@@ -1,0 +1,4 @@
+module Fields exposing (..)
+
+f r =
+    r.x + r.y

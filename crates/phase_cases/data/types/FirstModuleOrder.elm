@@ -1,0 +1,9 @@
+module FirstModuleOrder exposing (..)
+
+g : Int
+g =
+    "late"
+
+
+f =
+    String.length 1

@@ -1,0 +1,5 @@
+module General exposing (..)
+
+f : a -> b
+f x =
+    x

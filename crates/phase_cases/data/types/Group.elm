@@ -1,0 +1,8 @@
+module Group exposing (..)
+
+f x =
+    g x
+
+
+g x =
+    f x

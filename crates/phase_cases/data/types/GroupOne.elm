@@ -1,0 +1,12 @@
+module GroupOne exposing (..)
+
+f x =
+    ( g 1, g x )
+
+
+g x =
+    let
+        y =
+            f x
+    in
+    x

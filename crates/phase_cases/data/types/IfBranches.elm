@@ -1,0 +1,7 @@
+module IfBranches exposing (..)
+
+f b =
+    if b then
+        1
+    else
+        "a"

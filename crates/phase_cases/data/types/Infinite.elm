@@ -1,0 +1,4 @@
+module Infinite exposing (..)
+
+f x =
+    x :: x

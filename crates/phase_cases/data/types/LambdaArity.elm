@@ -1,0 +1,5 @@
+module LambdaArity exposing (..)
+
+f : Int -> Int
+f =
+    \a b -> a

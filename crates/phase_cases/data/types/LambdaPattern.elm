@@ -1,0 +1,4 @@
+module LambdaPattern exposing (..)
+
+f =
+    \( a, b ) c -> [ a, b, c ]

@@ -1,0 +1,11 @@
+module LetChain exposing (..)
+
+f x =
+    let
+        a =
+            b + 1
+
+        b =
+            x
+    in
+    a

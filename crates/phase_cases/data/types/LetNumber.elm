@@ -1,0 +1,8 @@
+module LetNumber exposing (..)
+
+f =
+    let
+        n =
+            1
+    in
+    String.repeat n "a"

@@ -1,0 +1,4 @@
+module ListCompare exposing (..)
+
+f a =
+    [ a ] < [ a ] 

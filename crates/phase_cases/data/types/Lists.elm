@@ -1,0 +1,4 @@
+module Lists exposing (..)
+
+f =
+    [ 1, "a" ]

@@ -1,0 +1,4 @@
+module MaybeCompare exposing (..)
+
+f =
+    Just 1 < Nothing

@@ -1,0 +1,4 @@
+module MissingArgument exposing (..)
+
+f =
+    String.length "a" "b"

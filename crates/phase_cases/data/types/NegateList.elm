@@ -1,0 +1,4 @@
+module NegateList exposing (..)
+
+f =
+    -[ 1 ]

@@ -1,0 +1,5 @@
+module NegateRigid exposing (..)
+
+f : comparable -> comparable
+f x =
+    -x

@@ -1,0 +1,5 @@
+module NegateText exposing (..)
+
+f : String -> String
+f s =
+    -s

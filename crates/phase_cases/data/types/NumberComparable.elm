@@ -1,0 +1,5 @@
+module NumberComparable exposing (..)
+
+f : number -> number -> Bool
+f a b =
+    a < b

@@ -1,0 +1,5 @@
+module NumberVar exposing (..)
+
+f : number -> number1 -> number
+f a b =
+    a + b

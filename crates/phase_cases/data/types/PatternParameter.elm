@@ -1,0 +1,5 @@
+module PatternParameter exposing (..)
+
+f : Int -> Int
+f ( a, b ) =
+    a

@@ -1,0 +1,6 @@
+port module PortArgument exposing (..)
+
+port out : Int -> Cmd msg
+
+main =
+    out ()

@@ -1,0 +1,4 @@
+module Pow exposing (..)
+
+f a b =
+    a ^ b + a // b

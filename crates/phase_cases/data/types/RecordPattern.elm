@@ -1,0 +1,4 @@
+module RecordPattern exposing (..)
+
+f { x, y } =
+    x ++ y

@@ -1,0 +1,5 @@
+module RecordTwiceOrder exposing (..)
+
+f : { b : Int, a : String }
+f =
+    { a = 1, b = "x" }

@@ -1,0 +1,4 @@
+module RecordUpdate exposing (..)
+
+f r =
+    { r | x = r.x + 1 }

@@ -1,0 +1,4 @@
+module Records exposing (..)
+
+x =
+    { x = 1 } < { x = 2 }

@@ -1,0 +1,5 @@
+module RigidFree exposing (..)
+
+f : a -> Int
+f x =
+    .name x

@@ -1,0 +1,5 @@
+module RigidLetters exposing (..)
+
+s : a -> Bool
+s x =
+    [ \y -> x ] == [ x ]

@@ -1,0 +1,5 @@
+module RigidNumber exposing (..)
+
+s : number -> Bool
+s x =
+    [ ( 1, x ) ] == [ x ]

@@ -1,0 +1,8 @@
+module Start exposing (..)
+
+f x =
+    g + 1
+
+
+g y =
+    f y

@@ -1,0 +1,4 @@
+module StringCompare exposing (..)
+
+f a =
+    a < "b" && a ++ "c" == a

@@ -1,0 +1,4 @@
+module Triples exposing (..)
+
+x =
+    ( 1, 'a', "b" ) < ( 2, 'b', "c" )

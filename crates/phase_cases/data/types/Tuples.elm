@@ -1,0 +1,4 @@
+module Tuples exposing (..)
+
+x =
+    ( 1, 'a' ) < ( 2, 'b' )

@@ -1,0 +1,5 @@
+module TwoNumbers exposing (..)
+
+f : number -> number1 -> Bool
+f a b =
+    a == b

@@ -1,0 +1,4 @@
+module TypesOfUnits exposing (..)
+
+f () =
+    ()

@@ -1,0 +1,4 @@
+module Units exposing (..)
+
+x =
+    () < ()

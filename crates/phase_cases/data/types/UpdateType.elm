@@ -1,0 +1,8 @@
+module UpdateType exposing (..)
+
+p =
+    { x = "a" }
+
+
+f =
+    { p | x = 2 }

@@ -1,0 +1,8 @@
+module UsesBefore exposing (..)
+
+f =
+    g + "a"
+
+
+g =
+    1

@@ -1,4 +1,0 @@
-module Main exposing (..)
-
-f =
-    (\n -> n.x) 1

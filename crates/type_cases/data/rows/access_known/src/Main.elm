@@ -1,8 +1,0 @@
-module Main exposing (..)
-
-p =
-    { x = 1 }
-
-
-f =
-    p.y

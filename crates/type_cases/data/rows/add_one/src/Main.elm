@@ -1,5 +1,0 @@
-module Main exposing (..)
-
-g : number -> number
-g x =
-    x + 1

@@ -1,8 +1,0 @@
-module Main exposing (..)
-
-type alias P a =
-    { x : a, y : Int }
-
-
-f =
-    P "a"

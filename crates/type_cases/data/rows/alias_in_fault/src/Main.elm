@@ -1,9 +1,0 @@
-module Main exposing (..)
-
-type alias P =
-    { x : Int }
-
-
-f : P
-f =
-    1

@@ -1,5 +1,0 @@
-module Main exposing (..)
-
-f : appendable -> appendable
-f x =
-    x ++ [ 1 ]

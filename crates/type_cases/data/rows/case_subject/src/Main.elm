@@ -1,9 +1,0 @@
-module Main exposing (..)
-
-f n =
-    case n + 1 of
-        "a" ->
-            1
-
-        _ ->
-            2

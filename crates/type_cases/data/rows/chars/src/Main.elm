@@ -1,4 +1,0 @@
-module Main exposing (..)
-
-f =
-    'a' < "a"

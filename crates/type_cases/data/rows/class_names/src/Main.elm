@@ -1,4 +1,0 @@
-module Main exposing (..)
-
-f x y =
-    ( x + 1, y + 1, x < x )

@@ -1,5 +1,0 @@
-module Main exposing (..)
-
-f : compappend -> compappend -> ( Bool, compappend )
-f a b =
-    ( a < b, a ++ b )

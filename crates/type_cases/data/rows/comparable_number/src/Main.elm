@@ -1,5 +1,0 @@
-module Main exposing (..)
-
-f : comparable -> comparable -> comparable
-f a b =
-    a + b

@@ -1,9 +1,0 @@
-module Main exposing (..)
-
-f xs =
-    case xs of
-        x :: "a" ->
-            x
-
-        _ ->
-            0

@@ -1,5 +1,0 @@
-module Main exposing (..)
-
-f : a -> a
-f x =
-    1

@@ -1,8 +1,0 @@
-module Main exposing (..)
-
-f =
-    let
-        ( a, b ) =
-            [ 1 ]
-    in
-    a

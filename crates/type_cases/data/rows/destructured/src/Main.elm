@@ -1,8 +1,0 @@
-module Main exposing (..)
-
-x =
-    let
-        ( f, g ) =
-            ( \p -> p, \q -> q )
-    in
-    ( f 1, f "a", g )

@@ -1,9 +1,0 @@
-module Main exposing (..)
-
-f x =
-    let
-        g : a -> a
-        g y =
-            x
-    in
-    g

@@ -1,9 +1,0 @@
-module Main exposing (..)
-
-f x =
-    let
-        g : b -> a -> a
-        g y z =
-            x
-    in
-    x

@@ -1,9 +1,0 @@
-module Main exposing (..)
-
-type alias N a =
-    { a | name : String }
-
-
-f : N a -> N a
-f r =
-    { r | name = r.name ++ "!" }

@@ -1,5 +1,0 @@
-module Main exposing (..)
-
-f : { a | x : Int } -> { a | x : Int, y : Int }
-f r =
-    r

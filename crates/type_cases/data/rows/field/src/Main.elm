@@ -1,4 +1,0 @@
-module Main exposing (..)
-
-ok =
-    .x { x = 1, y = 2 }

@@ -1,4 +1,0 @@
-module Main exposing (..)
-
-bad =
-    .z { x = 1, y = 2 }

@@ -1,4 +1,0 @@
-module Main exposing (..)
-
-f r =
-    r.b + r.a

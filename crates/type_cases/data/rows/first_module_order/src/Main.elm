@@ -1,9 +1,0 @@
-module Main exposing (..)
-
-g : Int
-g =
-    "late"
-
-
-f =
-    String.length 1

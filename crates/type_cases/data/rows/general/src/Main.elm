@@ -1,5 +1,0 @@
-module Main exposing (..)
-
-f : a -> b
-f x =
-    x

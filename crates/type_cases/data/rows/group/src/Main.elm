@@ -1,8 +1,0 @@
-module Main exposing (..)
-
-f x =
-    g x
-
-
-g x =
-    f x

@@ -1,7 +1,0 @@
-module Main exposing (..)
-
-f b =
-    if b then
-        1
-    else
-        "a"

@@ -1,9 +1,0 @@
-module Main exposing (..)
-
-f : { a | x : Int } -> Int
-f r =
-    r.x
-
-
-g =
-    f { x = 1, y = 2 }

@@ -1,5 +1,0 @@
-module Main exposing (..)
-
-f : Int -> Int
-f =
-    \a b -> a

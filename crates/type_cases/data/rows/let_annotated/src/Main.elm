@@ -1,9 +1,0 @@
-module Main exposing (..)
-
-f =
-    let
-        g : Int -> Int
-        g n =
-            "a"
-    in
-    g 1

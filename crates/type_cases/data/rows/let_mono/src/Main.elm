@@ -1,8 +1,0 @@
-module Main exposing (..)
-
-f x =
-    let
-        g y =
-            ( x, y )
-    in
-    ( g 1, g "a" )

@@ -1,8 +1,0 @@
-module Main exposing (..)
-
-f =
-    let
-        n =
-            1
-    in
-    String.repeat n "a"

@@ -1,4 +1,0 @@
-module Main exposing (..)
-
-f =
-    [ 1, "a" ]

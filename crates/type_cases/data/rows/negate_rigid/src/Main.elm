@@ -1,5 +1,0 @@
-module Main exposing (..)
-
-f : comparable -> comparable
-f x =
-    -x

@@ -1,5 +1,0 @@
-module Main exposing (..)
-
-f : String -> String
-f s =
-    -s

@@ -1,5 +1,0 @@
-module Main exposing (..)
-
-f : number -> number -> Bool
-f a b =
-    a < b

@@ -1,4 +1,0 @@
-module Main exposing (..)
-
-bad =
-    (\pair -> ( pair 1, pair "a" )) (\x -> ( x, x ))

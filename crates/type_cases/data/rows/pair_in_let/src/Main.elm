@@ -1,8 +1,0 @@
-module Main exposing (..)
-
-x =
-    let
-        pair x1 =
-            ( x1, x1 )
-    in
-    ( pair 1, pair "a" )

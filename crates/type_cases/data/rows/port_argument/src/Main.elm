@@ -1,6 +1,0 @@
-port module Main exposing (..)
-
-port out : Int -> Cmd msg
-
-main =
-    out ()

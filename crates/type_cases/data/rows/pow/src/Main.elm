@@ -1,4 +1,0 @@
-module Main exposing (..)
-
-f a b =
-    a ^ b + a // b

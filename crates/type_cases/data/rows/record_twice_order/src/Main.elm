@@ -1,5 +1,0 @@
-module Main exposing (..)
-
-f : { b : Int, a : String }
-f =
-    { a = 1, b = "x" }

@@ -1,4 +1,0 @@
-module Main exposing (..)
-
-f r =
-    { r | x = r.x + 1 }

@@ -1,5 +1,0 @@
-module Main exposing (..)
-
-f : a -> Int
-f x =
-    .name x

@@ -1,5 +1,0 @@
-module Main exposing (..)
-
-s : a -> Bool
-s x =
-    [ \y -> x ] == [ x ]

@@ -1,5 +1,0 @@
-module Main exposing (..)
-
-s : number -> Bool
-s x =
-    [ ( 1, x ) ] == [ x ]

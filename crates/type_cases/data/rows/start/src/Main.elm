@@ -1,8 +1,0 @@
-module Main exposing (..)
-
-f x =
-    g + 1
-
-
-g y =
-    f y

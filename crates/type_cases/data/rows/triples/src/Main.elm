@@ -1,4 +1,0 @@
-module Main exposing (..)
-
-x =
-    ( 1, 'a', "b" ) < ( 2, 'b', "c" )

@@ -1,4 +1,0 @@
-module Main exposing (..)
-
-x =
-    ( 1, 'a' ) < ( 2, 'b' )

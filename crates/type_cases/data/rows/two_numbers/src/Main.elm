@@ -1,5 +1,0 @@
-module Main exposing (..)
-
-f : number -> number1 -> Bool
-f a b =
-    a == b

@@ -1,8 +1,0 @@
-module Main exposing (..)
-
-p =
-    { x = "a" }
-
-
-f =
-    { p | x = 2 }

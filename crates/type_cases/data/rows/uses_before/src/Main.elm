@@ -1,8 +1,0 @@
-module Main exposing (..)
-
-f =
-    g + "a"
-
-
-g =
-    1
