@@ -34,6 +34,17 @@ const MAX_PROGRAM: u64 = 67_108_864;
 /// The most bytes that the text of inputs may have.
 const MAX_INPUTS: u64 = 4_194_304;
 
+/// Keeps the value until the process ends. The values and the environments of a run refer to its code, so it is lent for
+/// as long as that, and they have no lifetime of their own.
+fn kept<T: Drop + 'static>(alloc: Global, value: T) -> Result<&'static T, AllocError>
+    ensures { IfOk result (λ kept. kept.now ≡ value) }
+{
+    match Box::new(alloc, value) {
+        Ok(kept) => Ok(Box::leak(kept)),
+        Err(_refused) => Err(AllocError),
+    }
+}
+
 /// How a run ended.
 #[derive(Drop)]
 pub enum Ended {
@@ -113,11 +124,11 @@ fn read_file<F: Files>(
 }
 
 /// Runs a program with the text of its inputs, which stands in the file at `path`.
-fn run_given<'t, O: Sink>(
+fn run_given<O: Sink>(
     alloc: Global,
-    bump: &'t Bump,
+    bump: &'static Bump,
     out: &mut O,
-    program: &Program<'t>,
+    program: &Program,
     path: &str,
     text: &[u8],
     fuel: u32,
@@ -149,12 +160,12 @@ fn run_given<'t, O: Sink>(
 }
 
 /// Runs a program with the inputs in the file `inputs`.
-fn run_program<'t, F: Files, O: Sink>(
+fn run_program<F: Files, O: Sink>(
     alloc: Global,
-    bump: &'t Bump,
+    bump: &'static Bump,
     files: &mut F,
     out: &mut O,
-    program: &Program<'t>,
+    program: &Program,
     inputs: &str,
     fuel: u32,
 ) -> Result<Ended, RunEnd>
@@ -180,7 +191,7 @@ fn run_trees<F: Files, O: Sink>(
     alloc: Global,
     files: &mut F,
     out: &mut O,
-    trees: &Trees,
+    trees: &'static Trees,
     inputs: &str,
     fuel: u32,
 ) -> Result<Ended, RunEnd>
@@ -195,9 +206,9 @@ fn run_trees<F: Files, O: Sink>(
         → IsStop end (F.tree files.old) (OfProgram p fuel inputs.now) (O.text out.old) (O.text out.new)
         (F.faults files.old) (F.faults files.new) (O.faults out.old) (O.faults out.new)) }
 {
-    let bump = Bump::new(alloc);
-    match load(alloc, &bump, trees)? {
-        Some(program) => run_program(alloc, &bump, files, out, &program, inputs, fuel),
+    let bump = kept(alloc, Bump::new(alloc))?;
+    match load(alloc, bump, trees)? {
+        Some(program) => run_program(alloc, bump, files, out, &program, inputs, fuel),
         // This does not happen: what was read is a program.
         None => Err(RunEnd::NoMemory),
     }
@@ -227,7 +238,10 @@ fn run_source<F: Files, O: Sink>(
 {
     stop_law();
     match read(alloc, text) {
-        Ok(trees) => run_trees(alloc, files, out, &trees, inputs, fuel),
+        Ok(trees) => {
+            let trees = kept(alloc, trees)?;
+            run_trees(alloc, files, out, trees, inputs, fuel)
+        }
         Err(Refusal::At(place)) => {
             let line = line_at(alloc, Code::NotElmcOutput, program, place, b"")?;
             Ok(Ended::Refused(line))

@@ -59,9 +59,9 @@ fn put<O: Sink>(out: &mut O, lines: &[u8]) -> Result<(), RunEnd>
 
 /// Gives an input to a waiting program, and puts the lines of its answer. Returns whether the next input can be given.
 #[tactic(auto, using(crate::proofs::Remains::nothing))]
-fn give<'t, O: Sink>(
+fn give<O: Sink>(
     alloc: Global,
-    app: &mut App<'t>,
+    app: &mut App,
     out: &mut O,
     given: &Input,
     fuel: u32,
@@ -87,9 +87,9 @@ fn give<'t, O: Sink>(
 }
 
 /// Gives a waiting program its inputs, one after the other, until it ends.
-fn give_all<'t, O: Sink>(
+fn give_all<O: Sink>(
     alloc: Global,
-    app: &mut App<'t>,
+    app: &mut App,
     out: &mut O,
     inputs: &[Input],
     fuel: u32,
@@ -115,9 +115,9 @@ fn give_all<'t, O: Sink>(
 
 /// Puts the lines of the start, and gives the program its inputs if the start is done.
 #[tactic(auto, using(crate::proofs::Remains::nothing))]
-fn go_on<'t, O: Sink>(
+fn go_on<O: Sink>(
     alloc: Global,
-    app: &mut App<'t>,
+    app: &mut App,
     answer: &Answer,
     out: &mut O,
     inputs: &[Input],
@@ -144,11 +144,11 @@ fn go_on<'t, O: Sink>(
 
 /// Starts a program with its flags, gives it its inputs, and puts the lines of its answers as they arise.
 #[tactic(auto, using(crate::proofs::Remains::nothing, crate::proofs::Giving::session_begun))]
-pub fn run_session<'t, O: Sink>(
+pub fn run_session<O: Sink>(
     alloc: Global,
-    bump: &'t Bump,
+    bump: &'static Bump,
     out: &mut O,
-    program: &Program<'t>,
+    program: &Program,
     flags: &Wire,
     inputs: &[Input],
     fuel: u32,
