@@ -1,25 +1,13 @@
-//! Prints what the crates that a build begins with make of small inputs, a row for each: words of the process, files,
-//! texts, tokens, trees, types, and the order of definitions and modules. The file `stdout` has what must be printed.
+//! Prints what the crates that a build begins with make of small inputs, a row for each: names and faults, tokens,
+//! paths and files of projects, and files. The file `stdout` has what must be printed.
 #![tactic(auto)]
 
 mod base;
-mod chains;
-mod classes;
-mod command_words;
-mod definition_order;
-mod faults;
 mod files;
 mod host;
-mod modules;
-mod orders;
 mod paths;
 mod print;
 mod projects;
-mod readers;
-mod samples;
-mod schemes;
-mod steps;
-mod texts;
 mod tokens;
 
 use elm_files::{HostSink, Sink};
@@ -49,20 +37,9 @@ fn rows_and_host(rt: HostRuntime) -> io::Result<String> {
 
 /// Adds the rows of values.
 fn rows(alloc: Global, out: &mut String) -> Result<(), AllocError> {
-    command_words::rows(alloc, out)?;
     base::rows(alloc, out)?;
     tokens::rows(alloc, out)?;
-    chains::rows(alloc, out)?;
-    readers::rows(alloc, out)?;
-    faults::rows(alloc, out)?;
-    steps::rows(alloc, out)?;
-    classes::rows(alloc, out)?;
-    schemes::rows(alloc, out)?;
-    texts::rows(alloc, out)?;
-    definition_order::rows(alloc, out)?;
-    orders::rows(alloc, out)?;
     paths::rows(alloc, out)?;
     projects::rows(alloc, out)?;
-    modules::rows(alloc, out)?;
     files::rows(alloc, out)
 }
