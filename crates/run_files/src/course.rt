@@ -36,13 +36,11 @@ const MAX_INPUTS: u64 = 4_194_304;
 
 /// Keeps the value until the process ends. The values and the environments of a run refer to its code, so it is lent for
 /// as long as that, and they have no lifetime of their own.
-fn kept<T: Drop + 'static>(alloc: Global, value: T) -> Result<&'static T, AllocError>
+fn kept<'a, T: Drop + 'a>(alloc: Global, value: T) -> Result<&'a T, AllocError>
     ensures { IfOk result (λ kept. kept.now ≡ value) }
 {
-    match Box::new(alloc, value) {
-        Ok(kept) => Ok(Box::leak(kept)),
-        Err(_refused) => Err(AllocError),
-    }
+    let kept = Box::new(alloc, value)?;
+    Ok(Box::leak(kept))
 }
 
 /// How a run ended.
@@ -239,8 +237,8 @@ fn run_source<F: Files, O: Sink>(
     stop_law();
     match read(alloc, text) {
         Ok(trees) => {
-            let trees = kept(alloc, trees)?;
-            run_trees(alloc, files, out, trees, inputs, fuel)
+            let lent = kept(alloc, trees)?;
+            run_trees(alloc, files, out, lent, inputs, fuel)
         }
         Err(Refusal::At(place)) => {
             let line = line_at(alloc, Code::NotElmcOutput, program, place, b"")?;
