@@ -252,7 +252,7 @@ fn run_source<F: Files, O: Sink>(
 /// for each refused input, and for an end before every input was given, as they arise.
 ///
 /// Both are paths of `files`. `fuel` is the number of calls and turns of loops that the start may take. Each input may
-/// take the same again.
+/// take the same again. The memory of the program's code is not given back before the process ends.
 pub fn run<F: Files, O: Sink>(
     alloc: Global,
     files: &mut F,
